@@ -23,7 +23,8 @@ use Rattle.hunk_core.proofs.CommandLemmas.{span-clean}
 use Rattle.context_form.specs.Openings.{is_stars}
 use Rattle.context_form.specs.Ranges.{before_range, behind_range}
 use Rattle.context_form.specs.Merging.{part_of}
-use Rattle.context_form.specs.Grammar.{mark_byte, SpellsLine, SpellsPart, is_change, has_change, AreKept, SpellsSide, SpellsRange}
+use Rattle.context_form.specs.Parts.{begins_new}
+use Rattle.context_form.specs.Grammar.{mark_byte, Shows, SpellsLine, SpellsPart, is_change, has_change, AreKept, SpellsSide, SpellsRange}
 use Rattle.context_form.specs.Canonical.{stars_text, range_line_text, line_text, stretch_has, mixed, mixed_behind, part_text, canonical}
 use Rattle.context_form.proofs.JoinLemmas.{part-some, side-written, side-left-out}
 
@@ -48,9 +49,20 @@ part_lines side changed (m ∷ body) = cond (is_on_side side m.mark) (line_lines
 abbrev pub hunk_lines : ℕ → ℕ → List Marked → List (List ℕ)
 hunk_lines a b body = stars_text ∷ range_line_text Forward a (length (old_lines body)) ∷ (part_lines Forward (mixed body) body ++ range_line_text Reversed b (length (new_lines body)) ∷ part_lines Reversed (mixed body) body)
 
+full-other : (changed : Bool) (mark : Mark) (line : List ℕ) → begins_new ((mark_byte changed mark ∷ 32 ∷ line) ∷ []) ≡ false
+unfolding after
+full-other changed its.Keep line = refl
+full-other true its.Drop line = refl
+full-other false its.Drop line = refl
+full-other true its.Add line = refl
+full-other false its.Add line = refl
+
+full-shown : (changed : Bool) (m : Marked) → Shows (mark_byte changed m.mark ∷ 32 ∷ m.line) m
+full-shown changed m = inl (changed, 32 ∷ m.line, refl, refl, full-other changed m.mark m.line)
+
 line-spelled : (changed : Bool) (m : Marked) (others : List Marked) → IsLine m.line ⊎ (NoFeed m.line × (others ≡ [])) → SpellsLine (line_lines changed m) m others
-line-spelled changed m others (inl h) = subst (λ (b : Bool). SpellsLine (lines_by b changed m) m others) (sym (line-ends m.line h)) (changed, refl)
-line-spelled changed m others (inr h) = subst (λ (b : Bool). SpellsLine (lines_by b changed m) m others) (sym (no-end m.line h.0)) (backslash, h.1, marked m.mark (m.line ++ 10 ∷ []), (changed, refl), ap (marked m.mark) (shorter m.line))
+line-spelled changed m others (inl h) = subst (λ (b : Bool). SpellsLine (lines_by b changed m) m others) (sym (line-ends m.line h)) (full-shown changed m)
+line-spelled changed m others (inr h) = subst (λ (b : Bool). SpellsLine (lines_by b changed m) m others) (sym (no-end m.line h.0)) (backslash, h.1, marked m.mark (m.line ++ 10 ∷ []), full-shown changed (marked m.mark (m.line ++ 10 ∷ [])), ap (marked m.mark) (shorter m.line))
 
 no-others : (others : List Marked) → lines_of others ≡ [] → others ≡ []
 no-others [] e = refl
@@ -171,8 +183,8 @@ range-spelled side start n begins = by (ltb 1 n) refl
     by true is =
         let many = ltb-true 1 n is in
         let some = many-spelled start n many begins in
-        record { text = decimal start ++ 44 ∷ decimal (start + n - 1); rest = 10 ∷ []; parts = refl; ends = refl; numbers = (decimal start, decimal (start + n - 1), start + n - 1, refl, decimal-numeral start, decimal-numeral (start + n - 1), some, omega (arith, many), omega (arith, many, some)) }
-    by false is = record { text = decimal start; rest = 10 ∷ []; parts = refl; ends = refl; numbers = (decimal-numeral start, omega (arith, ltb-false 1 n is), begins) }
+        record { text = decimal start ++ 44 ∷ decimal (start + n - 1); rest = 10 ∷ []; parts = refl; numbers = (decimal start, decimal (start + n - 1), start + n - 1, refl, decimal-numeral start, decimal-numeral (start + n - 1), some, omega (arith, many), omega (arith, many, some)) }
+    by false is = record { text = decimal start; rest = 10 ∷ []; parts = refl; numbers = (decimal-numeral start, omega (arith, ltb-false 1 n is), begins) }
 
 pub stars-are : is_stars stars_text ≡ true
 unfolding after

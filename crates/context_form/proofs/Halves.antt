@@ -1,6 +1,6 @@
 -- Each part with its range line, read and spelled.
-use Rattle.std.proofs.Common.{◌≡◌, ℕ, ◌+◌, ◌^◌, ◌<◌, Bool, true, false, cond, eqb, ltb, not, List, [], ◌∷◌, ◌++◌, length, Option, None, Some, Result, Ok, Err, refl, sym, ap, subst, ◌∙◌, arith}
-use Rattle.std.proofs.lemmas.Bool.{eqb-true, ltb-false}
+use Rattle.std.proofs.Common.{◌≡◌, ℕ, zero, suc, ◌+◌, ◌^◌, ◌<◌, Bool, true, false, cond, eqb, ltb, not, ◌&&◌, ◌||◌, List, [], ◌∷◌, ◌++◌, length, Option, None, Some, Result, Ok, Err, refl, sym, ap, subst, ◌∙◌, arith, inl, inr}
+use Rattle.std.proofs.lemmas.Bool.{eqb-true, ltb-false, and_parts, or_cases, or_parts}
 use Rattle.hunk_core.specs.declared.BadKind.{BadKind}
 use Rattle.hunk_core.specs.declared.BadKind.TheVariants as kinds
 use Rattle.hunk_core.specs.declared.Side.{Side}
@@ -13,7 +13,7 @@ use Rattle.context_form.specs.Ranges.{range_line, most, is_count}
 use Rattle.context_form.specs.Parts.{PlainBody, no_body, body_at}
 use Rattle.context_form.specs.Merging.{size_beside, joined}
 use Rattle.context_form.specs.Hunks.{fitting, PlainPart, at_line, first_range, range_here, old_part, enough, new_count, new_part, sized, agreed, whole}
-use Rattle.context_form.specs.Presence.{begins_part, drops_alone, is_there, begins_old_part}
+use Rattle.context_form.specs.Presence.{begins_part, drops_alone, is_there, begins_shown, tells_other, is_needed, is_new, begins_old_part}
 use Rattle.context_form.specs.Grammar.{SpellsPart, has_change}
 use Rattle.context_form.proofs.MergeIs.{AllOn}
 use Rattle.context_form.proofs.RangeGrammar.{line-known}
@@ -83,6 +83,21 @@ there-most s olds rest many there = by s.start s.count many there
     by start None many h = none start (eqb start 0) refl h
     by start (Some count) many h = many count refl
 
+-- the same where blanks may be lost
+needed-most : (s : Stated) (old : PlainBody) → is_needed s old ≡ true → 0 < most s
+needed-most s old e = let one = and_parts (not (eqb (most s) 0)) (tells_other s old) e in some (most s) one.0
+  where
+    some : (n : ℕ) → not (eqb n 0) ≡ true → 0 < n
+    some zero e = absurd cc
+    some (suc n) e = omega arith
+
+new-most : (s : Stated) (old : PlainBody) (rest : List (List ℕ)) → ((count : ℕ) → s.count ≡ Some count → 0 < count) → is_new s old rest ≡ true → 0 < most s
+new-most s old rest many e =
+    elim (or_cases (is_there s old.lines rest) (is_needed s old && begins_shown rest) e) [
+      | inl there ↦ there-most s old.lines rest many there
+      | inr needed ↦ needed-most s old (and_parts (is_needed s old) (begins_shown rest) needed).0
+    ]
+
 no-part : (part : List Marked) (own : List (List ℕ)) → own ≡ [] → SpellsPart own part → length part ≡ 0
 no-part [] own e s = refl
 no-part (m ∷ part) own e s = absurd (none s.0 s.1 (sym e ∙ s.2) (first-of s.0 m part s.3))
@@ -90,36 +105,64 @@ no-part (m ∷ part) own e s = absurd (none s.0 s.1 (sym e ∙ s.2) (first-of s.
     none : (mine rest : List (List ℕ)) → [] ≡ mine ++ rest → First mine m.mark → ⊥
     none mine rest e f = let bad : [] ≡ f.line ∷ (f.more ++ rest) = e ∙ ap (λ (ls : List (List ℕ)). ls ++ rest) f.parts in cc
 
--- a new part without lines isn't there
-new-told : (s : Stated) (olds : List Marked) (q : Ahead) (b : PlainBody × Ahead) → ((count : ℕ) → s.count ≡ Some count → 0 < count) → (t : TakesBody Reversed (new_count s olds q.rest) no_body q b) → t.own ≡ [] → is_there s olds b.1.rest ≡ false
-new-told s olds q b many t e = subst (λ r. is_there s olds r ≡ false) same (by (is_there s olds q.rest) refl t.left_over t.counts t.done)
+-- a new part without lines isn't there, and one with lines is
+record IsNewBy (s : Stated) (old : PlainBody) (own rest : List (List ℕ)) : Type 0 where
+  begins : 0 < length own → is_new s old own ≡ true
+  told : own ≡ [] → is_there s old.lines rest ≡ false
+
+pub new-front : (s : Stated) (old : PlainBody) (own rest : List (List ℕ)) → 0 < length own → is_new s old (own ++ rest) ≡ is_new s old own
+new-front s old [] rest some = absurd (omega (arith, some))
+new-front s old (line ∷ own) rest some = by s.start s.count
   where
-    same : q.rest ≡ b.1.rest
-    same = t.parts ∙ ap (λ (ls : List (List ℕ)). ls ++ b.1.rest) e
+    by : (start : ℕ) (o : Option ℕ) → is_new (record { start = start; count = o }) old (line ∷ (own ++ rest)) ≡ is_new (record { start = start; count = o }) old (line ∷ own)
+    by start None = refl
+    by start (Some n) = refl
 
-    none : length t.part ≡ 0
-    none = no-part t.part t.own e t.spelled
+new-told : (s : Stated) (old : PlainBody) (q : Ahead) (b : PlainBody × Ahead) → ((count : ℕ) → s.count ≡ Some count → 0 < count) → (t : TakesBody Reversed (new_count s old q.rest) no_body q b) → IsNewBy s old t.own b.1.rest
+new-told s old q b many t = by (is_new s old q.rest) refl t.left_over t.counts t.done
+  where
+    none : t.own ≡ [] → length t.part ≡ 0
+    none e = no-part t.part t.own e t.spelled
 
-    by : (v : Bool) → is_there s olds q.rest ≡ v → (left : ℕ) → left + length t.part ≡ cond v (most s) 0 → eqb left 0 ≡ true → v ≡ false
-    by false is left counts done = refl
-    by true is left counts done = absurd (omega (arith, there-most s olds q.rest many is, counts, none, eqb-true left 0 done))
+    lacks : length t.part ≡ 0 → 0 < length t.own → ⊥
+    lacks e some = over t.part e t.spelled
+      where
+        over : (part : List Marked) → length part ≡ 0 → SpellsPart t.own part → ⊥
+        over [] z k = omega (arith, some, ap length k)
+        over (m ∷ part) z k = omega (arith, z)
+
+    same : q.rest ≡ t.own ++ b.1.rest
+    same = t.parts
+
+    by : (v : Bool) → is_new s old q.rest ≡ v → (left : ℕ) → left + length t.part ≡ cond v (most s) 0 → eqb left 0 ≡ true → IsNewBy s old t.own b.1.rest
+    by false is left counts done = record {
+      begins = λ some. absurd (lacks (omega (arith, counts)) some);
+      told = λ e. (or_parts (is_there s old.lines b.1.rest) _ (subst (λ r. is_new s old r ≡ false) (same ∙ ap (λ (ls : List (List ℕ)). ls ++ b.1.rest) e) is)).0;
+    }
+    by true is left counts done = record {
+      begins = λ some. sym (new-front s old t.own b.1.rest some) ∙ sym (ap (is_new s old) same) ∙ is;
+      told = λ e. absurd (omega (arith, new-most s old q.rest many is, counts, none e, eqb-true left 0 done));
+    }
 
 pub record TakesNew (old : PlainPart) (p : Ahead) (x : PlainPart × Ahead) : Type 0 where
   pub part : TakesPart Reversed 0 p x
+  pub begins : 0 < length part.own → is_new x.0.stated old.body part.own ≡ true
   pub told : part.own ≡ [] → is_there x.0.stated old.body.lines x.1.rest ≡ false
 
-new-of : (old : PlainPart) (p : Ahead) (s : Stated × Ahead) (b : PlainBody × Ahead) → TakesRange Reversed 0 p.number p.rest s → TakesBody Reversed (new_count s.0 old.body.lines s.1.rest) no_body s.1 b → TakesNew old p (record { number = p.number; stated = s.0; body = b.0 }, b.1)
+new-of : (old : PlainPart) (p : Ahead) (s : Stated × Ahead) (b : PlainBody × Ahead) → TakesRange Reversed 0 p.number p.rest s → TakesBody Reversed (new_count s.0 old.body s.1.rest) no_body s.1 b → TakesNew old p (record { number = p.number; stated = s.0; body = b.0 }, b.1)
 unfolding part-of
-new-of old p s b r t = record { part = part-of Reversed 0 (new_count s.0 old.body.lines s.1.rest) p s b r t; told = λ e. new-told s.0 old.body.lines s.1 b (line-known Reversed 0 r.line s.0 r.read).many t e }
+new-of old p s b r t =
+    let by = new-told s.0 old.body s.1 b (line-known Reversed 0 r.line s.0 r.read).many t in
+    record { part = part-of Reversed 0 (new_count s.0 old.body s.1.rest) p s b r t; begins = by.begins; told = by.told }
 
 pub new-takes : (old : PlainPart) (p : Ahead) (x : PlainPart × Ahead) → new_part old p ≡ Ok x → TakesNew old p x
 unfolding new_part
 new-takes old p x h =
-    let a = bind_ok (range_here Reversed 0 p) (λ s. fitting p.number s.0 (is_there s.0 old.body.lines s.1.rest) >>= λ fits. enough p.number old >>= λ few. body_at Reversed (new_count s.0 old.body.lines s.1.rest) no_body s.1 >>= λ b. Ok (record { number = p.number; stated = s.0; body = b.0 }, b.1)) x h in
-    let f = bind_ok (fitting p.number a.0.0 (is_there a.0.0 old.body.lines a.0.1.rest)) (λ fits. enough p.number old >>= λ few. body_at Reversed (new_count a.0.0 old.body.lines a.0.1.rest) no_body a.0.1 >>= λ b. Ok (record { number = p.number; stated = a.0.0; body = b.0 }, b.1)) x a.2 in
-    let e = bind_ok (enough p.number old) (λ few. body_at Reversed (new_count a.0.0 old.body.lines a.0.1.rest) no_body a.0.1 >>= λ b. Ok (record { number = p.number; stated = a.0.0; body = b.0 }, b.1)) x f.2 in
-    let b = bind_ok (body_at Reversed (new_count a.0.0 old.body.lines a.0.1.rest) no_body a.0.1) (λ b. Ok (record { number = p.number; stated = a.0.0; body = b.0 }, b.1)) x e.2 in
-    subst (TakesNew old p) (ok_is _ _ b.2) (new-of old p a.0 b.0 (range-takes Reversed 0 p.number p.rest a.0 a.1) (body_takes Reversed (new_count a.0.0 old.body.lines a.0.1.rest) no_body a.0.1 b.0 b.1))
+    let a = bind_ok (range_here Reversed 0 p) (λ s. fitting p.number s.0 (is_new s.0 old.body s.1.rest) >>= λ fits. enough p.number old >>= λ few. body_at Reversed (new_count s.0 old.body s.1.rest) no_body s.1 >>= λ b. Ok (record { number = p.number; stated = s.0; body = b.0 }, b.1)) x h in
+    let f = bind_ok (fitting p.number a.0.0 (is_new a.0.0 old.body a.0.1.rest)) (λ fits. enough p.number old >>= λ few. body_at Reversed (new_count a.0.0 old.body a.0.1.rest) no_body a.0.1 >>= λ b. Ok (record { number = p.number; stated = a.0.0; body = b.0 }, b.1)) x a.2 in
+    let e = bind_ok (enough p.number old) (λ few. body_at Reversed (new_count a.0.0 old.body a.0.1.rest) no_body a.0.1 >>= λ b. Ok (record { number = p.number; stated = a.0.0; body = b.0 }, b.1)) x f.2 in
+    let b = bind_ok (body_at Reversed (new_count a.0.0 old.body a.0.1.rest) no_body a.0.1) (λ b. Ok (record { number = p.number; stated = a.0.0; body = b.0 }, b.1)) x e.2 in
+    subst (TakesNew old p) (ok_is _ _ b.2) (new-of old p a.0 b.0 (range-takes Reversed 0 p.number p.rest a.0 a.1) (body_takes Reversed (new_count a.0.0 old.body a.0.1.rest) no_body a.0.1 b.0 b.1))
 
 -- ---- both parts
 

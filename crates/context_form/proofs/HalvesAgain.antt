@@ -1,6 +1,6 @@
 -- Each part with its range line that is spelled is read.
-use Rattle.std.proofs.Common.{◌≡◌, ℕ, ◌+◌, ◌^◌, ◌<◌, ◌≤◌, Bool, true, false, cond, eqb, ltb, ◌||◌, not, List, [], ◌∷◌, ◌++◌, length, None, Some, Ok, refl, sym, ap, subst, ◌∙◌, append_assoc, arith}
-use Rattle.std.proofs.lemmas.Bool.{eqb-true, le-ltb, and_parts}
+use Rattle.std.proofs.Common.{◌≡◌, ℕ, ◌+◌, ◌^◌, ◌<◌, ◌≤◌, Bool, true, false, cond, eqb, ltb, ◌&&◌, ◌||◌, not, List, [], ◌∷◌, ◌++◌, length, None, Some, Ok, refl, sym, ap, subst, ◌∙◌, append_assoc, arith}
+use Rattle.std.proofs.lemmas.Bool.{le-ltb, ne_eqb}
 use Rattle.std.proofs.lemmas.List.{length-append}
 use Rattle.hunk_core.specs.declared.Mark.{Mark}
 use Rattle.hunk_core.specs.declared.Side.{Side}
@@ -16,13 +16,14 @@ use Rattle.context_form.specs.Ranges.{range_line, most, is_count}
 use Rattle.context_form.specs.Parts.{PlainBody, no_body, body_at, begins_new, is_done}
 use Rattle.context_form.specs.Merging.{kept_count, size_by, joined, part_of, DropsFirst}
 use Rattle.context_form.specs.Hunks.{fitting, PlainPart, first_range, old_part, enough, new_count, new_part, sized, whole}
-use Rattle.context_form.specs.Presence.{may_begin, begins_part, drops_alone, is_there, begins_old_part}
-use Rattle.context_form.specs.Grammar.{mark_byte, SpellsRange, SpellsPart, has_change, SpellsSide, stated_as, written}
+use Rattle.context_form.specs.Presence.{is_there, begins_shown, is_new, begins_old_part}
+use Rattle.context_form.specs.Grammar.{SpellsRange, SpellsPart, has_change, SpellsSide, stated_as, written, told_by}
+use Rattle.context_form.proofs.Halves.{new-front}
 use Rattle.context_form.proofs.MergeIs.{AllOn}
 use Rattle.context_form.proofs.Loops.{body_done}
 use Rattle.context_form.proofs.RangeGrammar.{line-again, most-again, count-again}
-use Rattle.context_form.proofs.PartLemmas.{body_again, first-of, mark-again, bodied}
-use Rattle.context_form.proofs.JoinLemmas.{kept-first, kept-on, of-all, join-again, size-again}
+use Rattle.context_form.proofs.PartLemmas.{body_again, bodied}
+use Rattle.context_form.proofs.JoinLemmas.{of-all, join-again, size-again}
 
 abbrev pub parted : ℕ → Stated → PlainBody → PlainPart
 parted number s b = record { number = number; stated = s; body = b }
@@ -97,84 +98,61 @@ enough-again number at line single start (l ∷ own) body changed r = by (part_o
     by [] e = refl
     by (m ∷ part) e = rw e refl
 
-zero-kept : (m : Marked) (part : List Marked) → kept_count (m ∷ part) ≡ 0 → is_keep m.mark ≡ false
-zero-kept m part e = by (is_keep m.mark) refl
+-- a new part that is left out isn't new
+none-new : (line : List ℕ) (single : Bool) (start : ℕ) (old : List (List ℕ)) (body : List Marked) (tail : List (List ℕ)) → SpellsRange Reversed line single start (length (part_of Reversed body)) → SpellsSide Forward old [] body → SpellsSide Reversed [] old body → 0 < length old
+    → is_there (stated_as single start (length (part_of Reversed body))) (written Forward old body) tail ≡ false → is_new (stated_as single start (length (part_of Reversed body))) (told_by Forward old body) tail ≡ false
+none-new line single start [] body tail r s t some none = absurd (omega (arith, some))
+none-new line single start (l ∷ old) body tail r s t some none =
+    let n = length (part_of Reversed body) in
+    let st = stated_as single start n in
+    let olds = part_of Forward body in
+    let size : kept_count olds ≡ n = size-again Reversed Forward [] (l ∷ old) body t some in
+    let count : is_count st (kept_count olds) ≡ true = ap (is_count st) size ∙ count-again Reversed line single start n r in
+    let there : eqb (length olds) 0 ≡ false = ne_eqb (length olds) 0 (λ z. absurd (omega (arith, z, some-side Forward (l ∷ old) [] body s some))) in
+    by (is_there st olds tail) (not (eqb (most st) 0)) (has_change (l ∷ old)) (eqb (length olds) 0) (is_count st (kept_count olds)) (begins_shown tail) none t.1 there count
   where
-    by : (v : Bool) → is_keep m.mark ≡ v → v ≡ false
-    by false is = refl
-    by true is = absurd (omega (arith, e, kept-first m part is))
+    by : (a b c d e f : Bool) → a ≡ false → c ≡ false → d ≡ false → e ≡ true → (a || ((b && (c || (d || not e))) && f)) ≡ false
+    by a true c d e f h1 h2 h3 h4 = rw (h1, h2, h3, h4) refl
+    by a false c d e f h1 h2 h3 h4 = rw h1 refl
 
-none-dropped : (own : List (List ℕ)) (body : List Marked) → drops_alone (written Forward own body) ≡ true → kept_count body ≡ 0
-none-dropped [] body e = absurd cc
-none-dropped (line ∷ own) body e = let b = and_parts _ _ e in sym (kept-on Forward body) ∙ eqb-true (kept_count (part_of Forward body)) 0 b.1
-
--- a new part that is written is there
-there-by : (may_keep : Bool) (line bytes : List ℕ) (changed : Bool) (mark : Mark) (rest : List (List ℕ)) → line ≡ mark_byte changed mark ∷ 32 ∷ bytes → is_on_side Reversed mark ≡ true → (may_keep || not (is_keep mark)) ≡ true → begins_part may_keep (line ∷ rest) ≡ true
-there-by may_keep line bytes changed mark rest e on may = subst (λ l. begins_part may_keep (l ∷ rest) ≡ true) (sym e) (ap (may_begin may_keep) (mark-again Reversed changed mark bytes on) ∙ may)
-
-there-first : (may_keep : Bool) (own rest : List (List ℕ)) (part : List Marked) → SpellsPart own part → AllOn Reversed part → 0 < length own → (may_keep ≡ false → kept_count part ≡ 0) → begins_part may_keep (own ++ rest) ≡ true
-there-first may_keep own rest [] s on some kept = absurd (omega (arith, some, ap length s))
-there-first may_keep own rest (m ∷ part) s on some kept =
-    let f = first-of s.0 m part s.3 in
-    let parts : own ++ rest ≡ f.line ∷ (f.more ++ (s.1 ++ rest)) = ap (λ (ls : List (List ℕ)). ls ++ rest) (s.2 ∙ ap (λ (ls : List (List ℕ)). ls ++ s.1) f.parts) ∙ append_assoc (f.line ∷ f.more) s.1 rest in
-    rw parts (there-by may_keep f.line f.full f.shows.0 m.mark (f.more ++ (s.1 ++ rest)) f.shows.1 on.0 (by may_keep refl))
-  where
-    by : (v : Bool) → may_keep ≡ v → (v || not (is_keep m.mark)) ≡ true
-    by true is = refl
-    by false is = ap not (zero-kept m part (kept is))
-
-there-part : (single : Bool) (line : List ℕ) (start n : ℕ) (olds : List Marked) (rest : List (List ℕ)) → SpellsRange Reversed line single start n → 0 < n → ((may_keep : Bool) → (may_keep ≡ false → drops_alone olds ≡ true) → begins_part may_keep rest ≡ true) → is_there (stated_as single start n) olds rest ≡ true
-there-part true line start n olds rest r some there = by (eqb start 0) refl
-  where
-    back : (v : Bool) → not v ≡ false → v ≡ true
-    back true h = refl
-    back false h = absurd cc
-
-    by : (v : Bool) → eqb start 0 ≡ v → cond v false (begins_part (not (drops_alone olds)) rest) ≡ true
-    by true is = absurd (omega (arith, some, r.numbers.2 (eqb-true start 0 is)))
-    by false is = there (not (drops_alone olds)) (back (drops_alone olds))
-there-part false line start n olds rest r some there = there true (λ h. absurd cc)
-
-pub there-again : (single : Bool) (line : List ℕ) (start : ℕ) (old new rest : List (List ℕ)) (body : List Marked) → SpellsRange Reversed line single start (length (part_of Reversed body)) → SpellsSide Reversed new old body → 0 < length new
-    → is_there (stated_as single start (length (part_of Reversed body))) (written Forward old body) (new ++ rest) ≡ true
-there-again single line start old [] rest body r s some = absurd (omega (arith, some))
-there-again single line start old (l ∷ new) rest body r s some =
-    there-part single line start (length (part_of Reversed body)) (written Forward old body) ((l ∷ new) ++ rest) r (some-side Reversed (l ∷ new) old body s (omega arith))
-    (λ may_keep alone. there-first may_keep (l ∷ new) rest (part_of Reversed body) s (of-all Reversed body) (omega arith) (λ h. kept-on Reversed body ∙ none-dropped old body (alone h)))
-
-new-step : (old : PlainPart) (number after : ℕ) (line : List ℕ) (rest tail : List (List ℕ)) (s : Stated) (b : PlainBody) → range_line Reversed 0 line ≡ Ok s → fitting number s (is_there s old.body.lines rest) ≡ Ok tt → enough number old ≡ Ok tt → body_at Reversed (new_count s old.body.lines rest) no_body (ahead (number + 1) rest) ≡ Ok (b, ahead after tail)
+new-step : (old : PlainPart) (number after : ℕ) (line : List ℕ) (rest tail : List (List ℕ)) (s : Stated) (b : PlainBody) → range_line Reversed 0 line ≡ Ok s → fitting number s (is_new s old.body rest) ≡ Ok tt → enough number old ≡ Ok tt → body_at Reversed (new_count s old.body rest) no_body (ahead (number + 1) rest) ≡ Ok (b, ahead after tail)
     → new_part old (ahead number (line ∷ rest)) ≡ Ok (parted number s b, ahead after tail)
 unfolding new_part
 new-step old number after line rest tail s b e1 e2 e3 e4 = rw (range-step Reversed 0 number line rest s e1, e2, e3, e4) refl
 
-new-fits : (at : ℕ) (line : List ℕ) (single : Bool) (start : ℕ) (old new : List (List ℕ)) (body : List Marked) (tail : List (List ℕ)) → SpellsRange Reversed line single start (length (part_of Reversed body)) → start + length (part_of Reversed body) < 2 ^ 32 → SpellsSide Reversed new old body
-    → (new ≡ [] → is_there (stated_as single start (length (part_of Reversed body))) (written Forward old body) tail ≡ false) → fitting at (stated_as single start (length (part_of Reversed body))) (is_there (stated_as single start (length (part_of Reversed body))) (written Forward old body) (new ++ tail)) ≡ Ok tt
-new-fits at line single start old [] body tail r fits s told = fitting-none at (stated_as single start (length (part_of Reversed body))) (is_there (stated_as single start (length (part_of Reversed body))) (written Forward old body) tail) (told refl)
-new-fits at line single start old (l ∷ new) body tail r fits s told = fitting-again Reversed at line single start (length (part_of Reversed body)) (is_there (stated_as single start (length (part_of Reversed body))) (written Forward old body) ((l ∷ new) ++ tail)) r fits (some-side Reversed (l ∷ new) old body s (omega arith))
+new-fits : (at : ℕ) (line : List ℕ) (single : Bool) (start : ℕ) (old : PlainBody) (new partner : List (List ℕ)) (body : List Marked) (tail : List (List ℕ)) → SpellsRange Reversed line single start (length (part_of Reversed body)) → start + length (part_of Reversed body) < 2 ^ 32 → SpellsSide Reversed new partner body
+    → (new ≡ [] → is_new (stated_as single start (length (part_of Reversed body))) old tail ≡ false) → fitting at (stated_as single start (length (part_of Reversed body))) (is_new (stated_as single start (length (part_of Reversed body))) old (new ++ tail)) ≡ Ok tt
+new-fits at line single start old [] partner body tail r fits s none = fitting-none at (stated_as single start (length (part_of Reversed body))) (is_new (stated_as single start (length (part_of Reversed body))) old tail) (none refl)
+new-fits at line single start old (l ∷ new) partner body tail r fits s none = fitting-again Reversed at line single start (length (part_of Reversed body)) (is_new (stated_as single start (length (part_of Reversed body))) old ((l ∷ new) ++ tail)) r fits (some-side Reversed (l ∷ new) partner body s (omega arith))
 
-count-there : (s : Stated) (olds : List Marked) (rest : List (List ℕ)) → is_there s olds rest ≡ true → new_count s olds rest ≡ most s
-count-there s olds rest e = ap (λ b. cond b (most s) 0) e
+count-there : (s : Stated) (old : PlainBody) (rest : List (List ℕ)) → is_new s old rest ≡ true → new_count s old rest ≡ most s
+count-there s old rest e = ap (λ b. cond b (most s) 0) e
 
-count-none : (s : Stated) (olds : List Marked) (rest : List (List ℕ)) → is_there s olds rest ≡ false → new_count s olds rest ≡ 0
-count-none s olds rest e = ap (λ b. cond b (most s) 0) e
+count-none : (s : Stated) (old : PlainBody) (rest : List (List ℕ)) → is_new s old rest ≡ false → new_count s old rest ≡ 0
+count-none s old rest e = ap (λ b. cond b (most s) 0) e
 
 pub new-again : (number at : ℕ) (old_line : List ℕ) (old_single : Bool) (old_start : ℕ) (line : List ℕ) (single : Bool) (start : ℕ) (old new : List (List ℕ)) (body : List Marked) (tail : List (List ℕ)) → SpellsRange Forward old_line old_single old_start (length (part_of Forward body))
-    → SpellsRange Reversed line single start (length (part_of Reversed body)) → start + length (part_of Reversed body) < 2 ^ 32 → SpellsSide Reversed new old body → after_backslash tail ≡ None
+    → SpellsRange Reversed line single start (length (part_of Reversed body)) → start + length (part_of Reversed body) < 2 ^ 32 → SpellsSide Forward old new body → SpellsSide Reversed new old body → after_backslash tail ≡ None → 0 < length (old ++ new)
+    → (0 < length new → is_new (stated_as single start (length (part_of Reversed body))) (told_by Forward old body) new ≡ true)
     → (new ≡ [] → is_there (stated_as single start (length (part_of Reversed body))) (written Forward old body) tail ≡ false)
     → new_part (parted number (stated_as old_single old_start (length (part_of Forward body))) (bodied (written Forward old body) (has_change old))) (ahead at (line ∷ (new ++ tail)))
     ≡ Ok (parted at (stated_as single start (length (part_of Reversed body))) (bodied (written Reversed new body) (has_change new)), ahead (at + 1 + length new) tail)
-new-again number at old_line old_single old_start line single start old new body tail r0 r fits s none told =
+new-again number at old_line old_single old_start line single start old new body tail r0 r fits s0 s none some begins told =
     let n = length (part_of Reversed body) in
     let st = stated_as single start n in
-    let olds = written Forward old body in
-    let before = parted number (stated_as old_single old_start (length (part_of Forward body))) (bodied olds (has_change old)) in
-    let empty : new ≡ [] → new_count st olds (new ++ tail) ≡ 0 = (λ e. ap (λ (ls : List (List ℕ)). new_count st olds (ls ++ tail)) e ∙ count-none st olds tail (told e)) in
-    let full : 0 < length new → new_count st olds (new ++ tail) ≡ n = (λ some. count-there st olds (new ++ tail) (there-again single line start old new tail body r s some) ∙ most-again Reversed line single start n r (some-side Reversed new old body s some)) in
-    new-step before at (at + 1 + length new) line (new ++ tail) tail st (bodied (written Reversed new body) (has_change new)) (line-again Reversed 0 line single start n r fits (omega arith)) (new-fits at line single start old new body tail r fits s told) (enough-again number at old_line old_single old_start old body (has_change old) r0)
+    let olds = told_by Forward old body in
+    let before = parted number (stated_as old_single old_start (length (part_of Forward body))) olds in
+    let left_out : new ≡ [] → is_new st olds tail ≡ false = (λ e. none-new line single start old body tail r (subst (λ ls. SpellsSide Forward old ls body) e s0) (subst (λ ls. SpellsSide Reversed ls old body) e s) (alone e) (told e)) in
+    let empty : new ≡ [] → new_count st olds (new ++ tail) ≡ 0 = (λ e. ap (λ (ls : List (List ℕ)). new_count st olds (ls ++ tail)) e ∙ count-none st olds tail (left_out e)) in
+    let full : 0 < length new → new_count st olds (new ++ tail) ≡ n = (λ has. count-there st olds (new ++ tail) (new-front st olds new tail has ∙ begins has) ∙ most-again Reversed line single start n r (some-side Reversed new old body s has)) in
+    new-step before at (at + 1 + length new) line (new ++ tail) tail st (bodied (written Reversed new body) (has_change new)) (line-again Reversed 0 line single start n r fits (omega arith)) (new-fits at line single start olds new old body tail r fits s left_out) (enough-again number at old_line old_single old_start old body (has_change old) r0)
     (side_again Reversed new old body tail (new_count st olds (new ++ tail)) (at + 1) s none (λ e. zero-done (new_count st olds (new ++ tail)) (empty e)) full refl)
   where
     zero-done : (k : ℕ) → k ≡ 0 → eqb k 0 ≡ true
     zero-done k e = rw e refl
+
+    alone : new ≡ [] → 0 < length old
+    alone e = omega (arith, some, length-append old new, ap length e)
 
 -- ---- and_parts
 

@@ -17,13 +17,13 @@ use Rattle.line_list.proofs.Choices.{chosen}
 use Rattle.hunk_core.proofs.Agreeing.{after_backslash-some}
 use Rattle.hunk_core.proofs.TextLemmas.{some-not}
 use Rattle.context_form.specs.Ranges.{before_range}
-use Rattle.context_form.specs.Parts.{own_byte, mark_by, mark_at, Shown, must_be_marked, marked_at, room_at, cut, ended_by, first_line, line_at, is_done, PlainBody, with_line, body_at}
-use Rattle.context_form.specs.Grammar.{mark_byte, Shows, SpellsLine, SpellsPart, is_change, has_change}
+use Rattle.context_form.specs.Parts.{own_byte, mark_by, mark_at, behind_blank, taken_off, shown_at, begins_new, Shown, must_be_marked, marked_at, room_at, cut, ended_by, first_line, line_at, is_done, PlainBody, with_line, body_at}
+use Rattle.context_form.specs.Grammar.{mark_byte, IsEmptyLine, Shows, SpellsLine, SpellsPart, is_change, has_change}
 use Rattle.context_form.proofs.MergeIs.{AllOn}
 
 -- ---- one line
 
--- what a mark says of its line
+-- what a mark with its blank says of its line
 pub record MarkIs (side : Side) (line : List ℕ) (m : Mark × Bool) : Type 0 where
   pub changed : Bool
   pub is : line ≡ mark_byte changed m.0 ∷ 32 ∷ drop 2 line
@@ -72,6 +72,66 @@ mark-takes side (b ∷ c ∷ bytes) m e =
       | inr other ↦ absurd cc
     ]
 
+-- what a line of a part that was read says
+pub record ShownIs (side : Side) (line : List ℕ) (s : Shown) : Type 0 where
+  pub shows : begins_new (line ∷ []) ≡ false → Shows line s.0
+  pub on : is_on_side side s.0.mark ≡ true
+  pub change : s.1 ≡ is_change line
+
+head-of : (b c : ℕ) (bs cs : List ℕ) → b ∷ bs ≡ c ∷ cs → b ≡ c
+head-of b c bs cs e = cc
+
+taken-takes : (side : Side) (b : ℕ) (bytes : List ℕ) (s : Shown) (o : Option (Mark × Bool)) → mark_by side b ≡ o → taken_off bytes o ≡ Some s → ShownIs side (b ∷ bytes) s
+taken-takes side b bytes s None is e = absurd cc
+taken-takes side b bytes s (Some m) is e =
+    let k = mark-by side b bytes m is in
+    let same : b ∷ bytes ≡ mark_byte k.changed m.0 ∷ bytes = ap (λ c. c ∷ bytes) (head-of b (mark_byte k.changed m.0) (32 ∷ bytes) (32 ∷ bytes) k.is) in
+    subst (ShownIs side (b ∷ bytes)) (same_Some _ _ e) (record { shows = λ other. inl (k.changed, bytes, same, refl, other); on = k.on; change = k.change })
+
+pub shown-takes : (side : Side) (line : List ℕ) (s : Shown) → shown_at side line ≡ Some s → ShownIs side line s
+shown-takes side [] s e = absurd cc
+shown-takes side (b ∷ bytes) s e =
+    elim (chosen (eqb b 10) (Some (marked its.Keep (b ∷ bytes), false)) _ (Some s) e) [
+      | inl feed ↦ subst (ShownIs side (b ∷ bytes)) (same_Some _ _ feed.1) (record { shows = λ other. inr (eqb-true b 10 feed.0, refl); on = refl; change = rw (eqb-true b 10 feed.0) refl })
+      | inr mark ↦ taken-takes side b bytes s (mark_by side b) refl mark.1
+    ]
+
+pub byte-again : (side : Side) (changed : Bool) (mark : Mark) (bytes : List ℕ) → is_on_side side mark ≡ true → shown_at side (mark_byte changed mark ∷ bytes) ≡ Some (marked mark (behind_blank bytes), is_change (mark_byte changed mark ∷ bytes))
+byte-again side changed its.Keep bytes on = refl
+byte-again Forward true its.Drop bytes on = refl
+byte-again Forward false its.Drop bytes on = refl
+byte-again Forward changed its.Add bytes on = absurd cc
+byte-again Reversed changed its.Drop bytes on = absurd cc
+byte-again Reversed true its.Add bytes on = refl
+byte-again Reversed false its.Add bytes on = refl
+
+pub empty-again : (side : Side) (line : List ℕ) → IsEmptyLine line → shown_at side line ≡ Some (marked its.Keep line, is_change line)
+empty-again side [] h = absurd h
+empty-again side (b ∷ bytes) h = rw h refl
+
+-- what shows a line is read as it
+pub shown-again : (side : Side) (line : List ℕ) (m : Marked) → Shows line m → is_on_side side m.mark ≡ true → shown_at side line ≡ Some (m, is_change line)
+shown-again side line m (inl h) on = rw h.2 (byte-again side h.0 m.mark h.1 on ∙ ap (λ l. Some (marked m.mark l, is_change (mark_byte h.0 m.mark ∷ h.1))) (sym h.3))
+shown-again side line m (inr h) on = empty-again side line h.0 ∙ ap (λ (k : Marked). Some (k, is_change line)) (sym h.1)
+
+-- a line of a part that isn't over doesn't begin as the range line of a new part
+new-mark : (side : Side) (line : List ℕ) (s : Shown) → side ≡ Reversed → shown_at side line ≡ Some s → begins_new (line ∷ []) ≡ false
+unfolding after
+new-mark side [] s is e = absurd cc
+new-mark side (b ∷ bytes) s is e =
+    elim (chosen (eqb b 45) true false (eqb b 45) (same (eqb b 45))) [
+      | inl dash ↦ absurd (let none : shown_at Reversed (45 ∷ bytes) ≡ Some s = subst (λ k. shown_at Reversed (k ∷ bytes) ≡ Some s) (eqb-true b 45 dash.0) (subst (λ k. shown_at k (b ∷ bytes) ≡ Some s) is e) in cc)
+      | inr other ↦ rw other.0 refl
+    ]
+  where
+    same : (v : Bool) → cond v true false ≡ v
+    same true = refl
+    same false = refl
+
+goes-on : (side : Side) (left : ℕ) (line : List ℕ) (rest : List (List ℕ)) (s : Shown) → is_done side left (line ∷ rest) ≡ false → shown_at side line ≡ Some s → begins_new (line ∷ []) ≡ false
+goes-on Forward left line rest s on e = on
+goes-on Reversed left line rest s on e = new-mark Reversed line s refl e
+
 -- a line with this mark is read with it
 pub mark-again : (side : Side) (changed : Bool) (mark : Mark) (bytes : List ℕ) → is_on_side side mark ≡ true → mark_at side (mark_byte changed mark ∷ 32 ∷ bytes) ≡ Some (mark, is_change (mark_byte changed mark ∷ 32 ∷ bytes))
 unfolding after
@@ -83,9 +143,9 @@ mark-again Reversed changed its.Drop bytes on = absurd cc
 mark-again Reversed true its.Add bytes on = refl
 mark-again Reversed false its.Add bytes on = refl
 
-marked-ok : (number : ℕ) (line : List ℕ) (o : Option (Mark × Bool)) (s : Shown) → must_be_marked number line o ≡ Ok s → (m : Mark × Bool) × (o ≡ Some m) × ((marked m.0 (drop 2 line), m.1) ≡ s)
+marked-ok : (number : ℕ) (line : List ℕ) (o : Option Shown) (s : Shown) → must_be_marked number line o ≡ Ok s → o ≡ Some s
 marked-ok number line None s e = absurd cc
-marked-ok number line (Some m) s e = (m, refl, cc)
+marked-ok number line (Some m) s e = cc
 
 room-ok : (number left : ℕ) (m s : Shown) → room_at number left m ≡ Ok s → (0 < left) × (m ≡ s)
 room-ok number zero m s e = absurd cc
@@ -107,7 +167,7 @@ none-left (l ∷ ls) e = absurd (omega (arith, e))
 
 backslash-no-change : (line : List ℕ) → is_backslash line ≡ true → is_change line ≡ false
 unfolding after
-backslash-no-change [] e = absurd cc
+backslash-no-change [] e = refl
 backslash-no-change (b ∷ bytes) e =
     elim (chosen (eqb b 92) true false (eqb b 92) (same (eqb b 92))) [
       | inl slash ↦ subst (λ k. is_change (k ∷ bytes) ≡ false) (sym (eqb-true b 92 slash.0)) refl
@@ -128,20 +188,20 @@ one-change line = by (is_change line)
 two-change : (line mark : List ℕ) → is_backslash mark ≡ true → has_change (line ∷ mark ∷ []) ≡ is_change line
 two-change line mark e = let quiet = backslash-no-change mark e in rw quiet (one-change line)
 
-line_ends : (side : Side) (left number : ℕ) (line : List ℕ) (m : Mark × Bool) (rest : List (List ℕ)) (o : Option (List (List ℕ))) (x : Shown × Ahead) → 0 < left → MarkIs side line m → after_backslash rest ≡ o
-    → ended_by (marked m.0 (drop 2 line), m.1) left (ahead (number + 1) rest) o ≡ Ok x → TakesLine side left (ahead number (line ∷ rest)) x
-line_ends side left number line m rest None x some is e h =
+line_ends : (side : Side) (left number : ℕ) (line : List ℕ) (m : Shown) (rest : List (List ℕ)) (o : Option (List (List ℕ))) (x : Shown × Ahead) → 0 < left → ShownIs side line m → begins_new (line ∷ []) ≡ false → after_backslash rest ≡ o
+    → ended_by m left (ahead (number + 1) rest) o ≡ Ok x → TakesLine side left (ahead number (line ∷ rest)) x
+line_ends side left number line m rest None x some is other e h =
     subst (TakesLine side left (ahead number (line ∷ rest))) (ok_is _ _ h) (record {
       own = line ∷ [];
       parts = refl;
       number = refl;
       left_one = some;
-      spelled = λ others few. (is.changed, is.is);
+      spelled = λ others few. is.shows other;
       on = is.on;
       change = is.change ∙ sym (one-change line);
     })
-line_ends side left number line m rest (Some more) x some is e h =
-    let g = must_ok (eqb left 1) _ (cut (marked m.0 (drop 2 line), m.1), ahead (number + 1 + 1) more) x h in
+line_ends side left number line m rest (Some more) x some is other e h =
+    let g = must_ok (eqb left 1) _ (cut m, ahead (number + 1 + 1) more) x h in
     let b = after_backslash-some rest more e in
     let one : left ≡ 1 = eqb-true left 1 g.0 in
     subst (TakesLine side left (ahead number (line ∷ rest))) g.1 (record {
@@ -149,21 +209,21 @@ line_ends side left number line m rest (Some more) x some is e h =
       parts = ap (λ (r : List (List ℕ)). line ∷ r) b.1;
       number = omega arith;
       left_one = some;
-      spelled = λ others few. (b.2, none-left others (subst (λ n. length others < n) one few), marked m.0 (drop 2 line), (is.changed, is.is), refl);
+      spelled = λ others few. (b.2, none-left others (subst (λ n. length others < n) one few), m.0, is.shows other, refl);
       on = is.on;
       change = is.change ∙ sym (two-change line b.0 b.2);
     })
 
-pub line_takes : (side : Side) (left number : ℕ) (rest : List (List ℕ)) (x : Shown × Ahead) → first_line side left number rest ≡ Ok x → TakesLine side left (ahead number rest) x
+pub line_takes : (side : Side) (left number : ℕ) (rest : List (List ℕ)) (x : Shown × Ahead) → is_done side left rest ≡ false → first_line side left number rest ≡ Ok x → TakesLine side left (ahead number rest) x
 unfolding first_line
-line_takes side left number [] x h = absurd cc
-line_takes side left number (line ∷ rest) x h =
+line_takes side left number [] x on h = absurd cc
+line_takes side left number (line ∷ rest) x on h =
     let a = bind_ok (marked_at number side line) (λ m. room_at number left m >>= λ one. ended_by one left (ahead (number + 1) rest) (after_backslash rest)) x h in
     let r = bind_ok (room_at number left a.0) (λ one. ended_by one left (ahead (number + 1) rest) (after_backslash rest)) x a.2 in
-    let m = marked-ok number line (mark_at side line) a.0 a.1 in
+    let m = marked-ok number line (shown_at side line) a.0 a.1 in
     let o = room-ok number left a.0 r.0 r.1 in
-    line_ends side left number line m.0 rest (after_backslash rest) x o.0 (mark-takes side line m.0 m.1) refl
-    (subst (λ (y : Shown). ended_by y left (ahead (number + 1) rest) (after_backslash rest) ≡ Ok x) (sym (m.2 ∙ o.1)) r.2)
+    line_ends side left number line a.0 rest (after_backslash rest) x o.0 (shown-takes side line a.0 m) (goes-on side left line rest a.0 on m) refl
+    (subst (λ (y : Shown). ended_by y left (ahead (number + 1) rest) (after_backslash rest) ≡ Ok x) (sym o.1) r.2)
 
 -- ---- a part
 
@@ -215,14 +275,14 @@ unfolding body_at
 body_takes side zero before p x h =
     elim (chosen (is_done side 0 p.rest) _ _ (Ok x) h) [
       | inl done ↦ subst (TakesBody side 0 before p) (ok_is _ _ done.1) (body_none side 0 before p done.0)
-      | inr on ↦ absurd (let a = bind_ok (line_at side 0 p) (λ y. Ok (with_line before y.0, y.1)) x on.1 in let t = line_takes side 0 p.number p.rest a.0 a.1 in omega (arith, t.left_one))
+      | inr on ↦ absurd (let a = bind_ok (line_at side 0 p) (λ y. Ok (with_line before y.0, y.1)) x on.1 in let t = line_takes side 0 p.number p.rest a.0 on.0 a.1 in omega (arith, t.left_one))
     ]
 body_takes side (suc left) before p x h =
     elim (chosen (is_done side (suc left) p.rest) _ _ (Ok x) h) [
       | inl done ↦ subst (TakesBody side (suc left) before p) (ok_is _ _ done.1) (body_none side (suc left) before p done.0)
       | inr on ↦ (
           let a = bind_ok (line_at side (suc left) p) (λ y. body_at side left (with_line before y.0) y.1) x on.1 in
-          body_more side left before p a.0 x (line_takes side (suc left) p.number p.rest a.0 a.1) (body_takes side left (with_line before a.0.0) a.0.1 x a.2))
+          body_more side left before p a.0 x (line_takes side (suc left) p.number p.rest a.0 on.0 a.1) (body_takes side left (with_line before a.0.0) a.0.1 x a.2))
     ]
 
 -- ---- what is spelled is read
@@ -231,16 +291,22 @@ pub record Marks (line : List ℕ) : Type 0 where
   pub quiet : is_backslash line ≡ false
   pub dashes : is_some (after (before_range Reversed) line) ≡ false
 
-marks-by : (changed : Bool) (mark : Mark) (bytes : List ℕ) → Marks (mark_byte changed mark ∷ 32 ∷ bytes)
+mark-quiet : (changed : Bool) (mark : Mark) (bytes : List ℕ) → is_backslash (mark_byte changed mark ∷ bytes) ≡ false
 unfolding after
-marks-by changed its.Keep bytes = record { quiet = refl; dashes = refl }
-marks-by true its.Drop bytes = record { quiet = refl; dashes = refl }
-marks-by false its.Drop bytes = record { quiet = refl; dashes = refl }
-marks-by true its.Add bytes = record { quiet = refl; dashes = refl }
-marks-by false its.Add bytes = record { quiet = refl; dashes = refl }
+mark-quiet changed its.Keep bytes = refl
+mark-quiet true its.Drop bytes = refl
+mark-quiet false its.Drop bytes = refl
+mark-quiet true its.Add bytes = refl
+mark-quiet false its.Add bytes = refl
 
-shows-marks : (line : List ℕ) (m : Marked) → Shows line m → Marks line
-shows-marks line m h = subst Marks (sym h.1) (marks-by h.0 m.mark m.line)
+empty-marks : (line : List ℕ) → IsEmptyLine line → Marks line
+unfolding after
+empty-marks [] h = absurd h
+empty-marks (b ∷ bytes) h = record { quiet = rw h refl; dashes = rw h refl }
+
+pub shows-marks : (line : List ℕ) (m : Marked) → Shows line m → Marks line
+shows-marks line m (inl h) = record { quiet = rw h.2 (mark-quiet h.0 m.mark h.1); dashes = h.4 }
+shows-marks line m (inr h) = empty-marks line h.0
 
 -- the first of the lines that a line takes shows it
 pub record First (own : List (List ℕ)) (mark : Mark) : Type 0 where
@@ -274,7 +340,7 @@ part_quiet [] piece rest h none = rw h none
 part_quiet (m ∷ part) piece rest h none = rw (h.2, append_assoc h.0 h.1 rest) (starts_quiet h.0 (h.1 ++ rest) m part h.3)
 
 marked-again : (side : Side) (number : ℕ) (line : List ℕ) (m : Marked) → Shows line m → is_on_side side m.mark ≡ true → marked_at number side line ≡ Ok (m, is_change line)
-marked-again side number line m h on = subst (λ l. marked_at number side l ≡ Ok (m, is_change l)) (sym h.1) (ap (must_be_marked number (mark_byte h.0 m.mark ∷ 32 ∷ m.line)) (mark-again side h.0 m.mark m.line on))
+marked-again side number line m h on = ap (must_be_marked number line) (shown-again side line m h on)
 
 line_again : (side : Side) (own tail : List (List ℕ)) (m : Marked) (others : List Marked) (number : ℕ) → SpellsLine own m others → is_on_side side m.mark ≡ true → after_backslash tail ≡ None → first_line side (suc (length others)) number (own ++ tail) ≡ Ok ((m, has_change own), ahead (number + length own) tail)
 unfolding first_line

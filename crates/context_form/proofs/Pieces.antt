@@ -16,7 +16,7 @@ use Rattle.context_form.specs.Openings.{is_stars, opens_old, begins_hunk}
 use Rattle.context_form.specs.Parts.{begins_new}
 use Rattle.context_form.specs.Merging.{part_of, size_by}
 use Rattle.context_form.specs.Hunks.{PlainPart, old_part, new_part, quiet, parts_at, whole, first_hunk, hunk_at, reading}
-use Rattle.context_form.specs.Presence.{is_there}
+use Rattle.context_form.specs.Presence.{is_there, is_new}
 use Rattle.context_form.specs.Grammar.{SpellsRange, has_change, stated_as, written, SpellsHunk, IsPiece}
 use Rattle.context_form.proofs.RangeGrammar.{is_one, line-known, dashes-again, dashes-quiet, dashes-unmarked, stars-again}
 use Rattle.context_form.proofs.JoinLemmas.{join-takes}
@@ -78,6 +78,7 @@ hunk-from least number stars rest old new next h opens t w silent =
         old_fits = rw (w.old_start, ← so) w.old_sized.fits;
         new_fits = rw (w.new_start, ← sn) w.new_sized.fits;
         order = rw w.old_start ko.order;
+        begins = λ has. subst (λ (ls : List Marked). is_new (stated_as (is_one new.stated) h.new_start (length (part_of Reversed h.body))) (bodied ls (has_change o.own)) n.own ≡ true) j.is (subst (λ s. is_new s (bodied old.body.lines (has_change o.own)) n.own ≡ true) same (subst (λ c. is_new new.stated (bodied old.body.lines c) n.own ≡ true) o.change (t.new.begins has)));
         told = λ e. subst (λ (ls : List Marked). is_there (stated_as (is_one new.stated) h.new_start (length (part_of Reversed h.body))) ls next.rest ≡ false) j.is (subst (λ s. is_there s old.body.lines next.rest ≡ false) same (t.new.told e));
       };
       quiet = silent;
@@ -117,7 +118,7 @@ hunk_again h own rest least number s none =
     let old = parted (number + 1) (stated_as s.old_single h.old_start n0) (bodied (written Forward s.old h.body) (has_change s.old)) in
     let new = parted (number + 1 + 1 + length s.old) (stated_as s.new_single h.new_start n) (bodied (written Reversed s.new h.body) (has_change s.new)) in
     let one = old-again least (number + 1) s.old_line s.old_single h.old_start s.old s.new h.body (s.new_line ∷ (s.new ++ rest)) s.old_range s.old_fits s.order s.old_part dashes silent (dashes-unmarked s.new_line s.new_single h.new_start n s.new_range) in
-    let two = new-again (number + 1) (number + 1 + 1 + length s.old) s.old_line s.old_single h.old_start s.new_line s.new_single h.new_start s.old s.new h.body rest s.old_range s.new_range s.new_fits s.new_part none s.told in
+    let two = new-again (number + 1) (number + 1 + 1 + length s.old) s.old_line s.old_single h.old_start s.new_line s.new_single h.new_start s.old s.new h.body rest s.old_range s.new_range s.new_fits s.old_part s.new_part none s.some s.begins s.told in
     let three = whole-again (number + 1) (number + 1 + 1 + length s.old) s.old_line s.old_single h.old_start s.new_line s.new_single h.new_start s.old s.new h.body s.old_range s.new_range s.old_fits s.new_fits s.old_part s.new_part s.some s.drops in
     let after = number + 1 + 1 + length s.old + 1 + length s.new in
     let count : number + 1 + 1 + length s.old + 1 + length s.new ≡ number + length own = omega (arith, ap length s.parts, length-append s.old (s.new_line ∷ s.new)) in

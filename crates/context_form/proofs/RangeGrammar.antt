@@ -14,11 +14,11 @@ use Rattle.num_text.proofs.Runs.{number-again}
 use Rattle.num_text.specs.NumberRanges.{range_at}
 use Rattle.num_text.specs.NumberRanges as ranges
 use Rattle.num_text.proofs.RangeGrammar.{range-takes, StopsRange, ranged, range-again, range-single}
-use Rattle.hunk_core.specs.Letters.{is_line_end}
+use Rattle.hunk_core.specs.OptionSteps.{◌>>=◌}
 use Rattle.hunk_core.proofs.OptionLemmas.{some_step}
 use Rattle.hunk_core.proofs.FaultSteps.{pass}
 use Rattle.context_form.specs.declared.range.Stated.{Stated}
-use Rattle.context_form.specs.Ranges.{before_range, behind_range, closed, numbers_at, is_bad_range, is_too_large, stated, checked, from_numbers, range_line, most, is_count, is_count_by}
+use Rattle.context_form.specs.Ranges.{before_range, behind_range, numbers_at, is_bad_range, is_too_large, stated, checked, from_numbers, range_line, most, is_count, is_count_by}
 use Rattle.context_form.specs.Openings.{opens_old}
 use Rattle.context_form.specs.Parts.{mark_at}
 use Rattle.context_form.specs.Grammar.{SpellsNumbers, SpellsRange, stated_as}
@@ -26,13 +26,9 @@ use Rattle.context_form.specs.Grammar.{SpellsNumbers, SpellsRange, stated_as}
 -- ---- steps
 -- ---- the numbers
 
-pub closed-ok : (r : NumberRange) (o : Option (List ℕ)) (q : NumberRange) → closed r o ≡ Some q → (rest : List ℕ) × (o ≡ Some rest) × (is_line_end rest ≡ true) × (r ≡ q)
+pub closed-ok : (r : NumberRange) (o : Option (List ℕ)) (q : NumberRange) → (o >>= λ rest. Some r) ≡ Some q → (rest : List ℕ) × (o ≡ Some rest) × (r ≡ q)
 closed-ok r None q e = absurd cc
-closed-ok r (Some rest) q e =
-    elim (chosen (is_line_end rest) (Some r) None (Some q) e) [
-      | inl ends ↦ (rest, refl, ends.0, some_is r q (Some r) refl ends.1)
-      | inr not_there ↦ absurd cc
-    ]
+closed-ok r (Some rest) q e = (rest, refl, cc)
 
 pub stops-behind : (side : Side) (rest : List ℕ) → StopsRange (behind_range side ++ rest)
 stops-behind Forward rest = record { digit = refl; comma = λ n. refl }
@@ -51,7 +47,6 @@ record TakesNumbers (side : Side) (line : List ℕ) (r : NumberRange) : Type 0 w
   text : List ℕ
   rest : List ℕ
   parts : line ≡ before_range side ++ (text ++ (behind_range side ++ rest))
-  ends : is_line_end rest ≡ true
   spelled : ranges.SpellsRange text r.is_single r.first r.last
   turned : r.is_turned ≡ ltb r.last r.first
 
@@ -64,7 +59,7 @@ numbers-one side line r e =
     let a = some_step (after (before_range side) line) _ r e in
     let b = some_step (range_at a.0) _ r a.2 in
     let c = closed-ok b.0.0 (after (behind_range side) b.0.1) r b.2 in
-    subst (λ (q : NumberRange). q.is_single ≡ true → q.last ≡ q.first) c.3 (range-single a.0 b.0 b.1)
+    subst (λ (q : NumberRange). q.is_single ≡ true → q.last ≡ q.first) c.2 (range-single a.0 b.0 b.1)
 
 numbers-take : (side : Side) (line : List ℕ) (r : NumberRange) → numbers_at side line ≡ Some r → r.first < 2 ^ 32 → r.last < 2 ^ 32 → TakesNumbers side line r
 unfolding numbers_at
@@ -72,26 +67,24 @@ numbers-take side line r e small small2 =
     let a = some_step (after (before_range side) line) _ r e in
     let b = some_step (range_at a.0) _ r a.2 in
     let c = closed-ok b.0.0 (after (behind_range side) b.0.1) r b.2 in
-    let t = range-takes a.0 b.0 b.1 (subst (λ (q : NumberRange). q.first < 2 ^ 32) (sym c.3) small) (subst (λ (q : NumberRange). q.last < 2 ^ 32) (sym c.3) small2) in
-    subst (TakesNumbers side line) c.3 (record {
+    let t = range-takes a.0 b.0 b.1 (subst (λ (q : NumberRange). q.first < 2 ^ 32) (sym c.2) small) (subst (λ (q : NumberRange). q.last < 2 ^ 32) (sym c.2) small2) in
+    subst (TakesNumbers side line) c.2 (record {
       text = t.text;
       rest = c.0;
       parts = join_parts line (before_range side) a.0 t.text b.0.1 (behind_range side) c.0 (after-takes (before_range side) line a.0 a.1) t.parts (after-takes (behind_range side) b.0.1 c.0 c.1);
-      ends = c.2;
       spelled = t.spelled;
       turned = t.turned;
     })
 
-numbers-again : (side : Side) (line text rest : List ℕ) (single : Bool) (first last : ℕ) → line ≡ before_range side ++ (text ++ (behind_range side ++ rest)) → is_line_end rest ≡ true → ranges.SpellsRange text single first last → first < 2 ^ 32 → last < 2 ^ 32
+numbers-again : (side : Side) (line text rest : List ℕ) (single : Bool) (first last : ℕ) → line ≡ before_range side ++ (text ++ (behind_range side ++ rest)) → ranges.SpellsRange text single first last → first < 2 ^ 32 → last < 2 ^ 32
     → numbers_at side line ≡ Some (ranged single first last)
 unfolding numbers_at
-numbers-again side line text rest single first last parts ends spelled small small2 =
+numbers-again side line text rest single first last parts spelled small small2 =
     rw (
       parts,
       after-again (before_range side) (text ++ (behind_range side ++ rest)),
       range-again text single first last (behind_range side ++ rest) spelled small small2 (stops-behind side rest),
       after-again (behind_range side) rest,
-      ends,
     ) refl
 
 -- ---- the tests
@@ -129,7 +122,7 @@ known-one side least line first last turned read one fits order =
     let small : first < 2 ^ 32 = omega (arith, ltb-false 4294967295 first fits) in
     let t = numbers-take side line (made first last true turned) read small (omega (arith, small, one)) in
     record {
-      spelled = λ n is. let c = counted n is in record { text = t.text; rest = t.rest; parts = t.parts; ends = t.ends; numbers = (t.spelled.1, c.0, c.1) };
+      spelled = λ n is. let c = counted n is in record { text = t.text; rest = t.rest; parts = t.parts; numbers = (t.spelled.1, c.0, c.1) };
       same = λ n is. refl;
       order = order;
       many = λ count e. absurd cc;
@@ -151,7 +144,7 @@ known-two side least line first last turned read good fits order =
     let t = numbers-take side line (made first last false turned) read (omega (arith, low)) (omega (arith, low)) in
     let le : first ≤ last = ltb-false last first (sym t.turned ∙ g.0) in
     record {
-      spelled = λ n is. let same : n ≡ (last - first) + 1 = eqb-true n ((last - first) + 1) is in record { text = t.text; rest = t.rest; parts = t.parts; ends = t.ends; numbers = (t.spelled.0, t.spelled.1, last, t.spelled.4, t.spelled.2, t.spelled.3, omega (arith, ne), le, omega (arith, same, le)) };
+      spelled = λ n is. let same : n ≡ (last - first) + 1 = eqb-true n ((last - first) + 1) is in record { text = t.text; rest = t.rest; parts = t.parts; numbers = (t.spelled.0, t.spelled.1, last, t.spelled.4, t.spelled.2, t.spelled.3, omega (arith, ne), le, omega (arith, same, le)) };
       same = λ n is. let same : n ≡ (last - first) + 1 = eqb-true n ((last - first) + 1) is in rw same refl;
       order = order;
       many = λ count e. let is : (last - first) + 1 ≡ count = cc in omega (arith, is);
@@ -181,7 +174,7 @@ pub line-again : (side : Side) (least : ℕ) (line : List ℕ) (single : Bool) (
 line-again side least line true start n s fits order =
     let low : ltb start least ≡ false = le-ltb start least order in
     let small : ltb 4294967295 start ≡ false = le-ltb 4294967295 start (omega (arith, fits)) in
-    from_read side least line (ranged true start start) (numbers-again side line s.text s.rest true start start s.parts s.ends (refl, s.numbers.0) (omega (arith, fits)) (omega (arith, fits)))
+    from_read side least line (ranged true start start) (numbers-again side line s.text s.rest true start start s.parts (refl, s.numbers.0) (omega (arith, fits)) (omega (arith, fits)))
     ∙ passed least (ranged true start start) refl small low
 line-again side least line false start n s fits order =
     let m = s.numbers in
@@ -192,7 +185,7 @@ line-again side least line false start n s fits order =
     let count : (last - start) + 1 ≡ n = omega (arith, m.7, m.8) in
     let small : ltb 4294967295 (start + ((last - start) + 1)) ≡ false = le-ltb 4294967295 (start + ((last - start) + 1)) (omega (arith, fits, count)) in
     let good : is_bad_range (ranged false start last) ≡ false = rw (later, begins) refl in
-    from_read side least line (ranged false start last) (numbers-again side line s.text s.rest false start last s.parts s.ends (m.0, m.1, m.4, m.5, m.3) (omega (arith, fits)) (omega (arith, fits, m.8)))
+    from_read side least line (ranged false start last) (numbers-again side line s.text s.rest false start last s.parts (m.0, m.1, m.4, m.5, m.3) (omega (arith, fits)) (omega (arith, fits, m.8)))
     ∙ passed least (ranged false start last) good small low ∙ ap (λ k. Ok (record { start = start; count = Some k })) count
 
 eqb-same : (n m : ℕ) → n ≡ m → eqb n m ≡ true

@@ -1,5 +1,5 @@
 -- The two parts of a hunk are read without a look behind where they stop, but for the line there.
-use Rattle.std.proofs.Common.{◌≡◌, ◌≢◌, ℕ, zero, suc, ◌-◌, ◌&&◌, ◌+◌, Bool, true, false, cond, eqb, ltb, List, [], ◌∷◌, Option, None, Some, Result, Ok, Err, refl, ap, subst, ◌∙◌, arith}
+use Rattle.std.proofs.Common.{◌≡◌, ◌≢◌, ℕ, zero, suc, ◌-◌, ◌&&◌, ◌||◌, ◌+◌, Bool, true, false, cond, eqb, ltb, List, [], ◌∷◌, Option, None, Some, Result, Ok, Err, refl, ap, subst, ◌∙◌, arith}
 use Rattle.hunk_core.specs.declared.BadKind.{BadKind}
 use Rattle.hunk_core.specs.declared.BadKind.TheVariants as kinds
 use Rattle.hunk_core.specs.declared.Mark.{Mark}
@@ -14,8 +14,8 @@ use Rattle.hunk_core.proofs.FaultSteps.{failed, with_rest, err_is, assoc, here-i
 use Rattle.hunk_core.proofs.Steady.{one_line, FailsHere, peek_by}
 use Rattle.context_form.specs.declared.range.Stated.{Stated}
 use Rattle.context_form.specs.Ranges.{is_bad_range, is_too_large, stated, from_numbers, numbers_at, range_line, most}
-use Rattle.context_form.specs.Parts.{mark_at, Shown, must_be_marked, marked_at, room_at, cut, ended_by, first_line, line_at, is_done, PlainBody, no_body, with_line, body_at}
-use Rattle.context_form.specs.Presence.{is_there, begins_old_part}
+use Rattle.context_form.specs.Parts.{shown_at, Shown, must_be_marked, marked_at, room_at, cut, ended_by, first_line, line_at, is_done, PlainBody, no_body, with_line, body_at}
+use Rattle.context_form.specs.Presence.{is_there, begins_shown, is_needed, is_new, begins_old_part}
 use Rattle.context_form.specs.Hunks.{PlainPart, fitting, at_line, first_range, old_part, too_few, enough, new_count, new_part, parts_at}
 use Rattle.hunk_core.proofs.Steady.{steady-then, steady-value, steady-same}
 use Rattle.context_form.proofs.Steady.{Steady, LooksAhead, steady-test, steady-line, steady-before, steady-peek}
@@ -25,13 +25,13 @@ abbrev taken_line : Side → ℕ → ℕ → List ℕ → Result Shown Fault
 taken_line side left number line = marked_at number side line >>= λ m. room_at number left m
 
 taken-here : (side : Side) (left : ℕ) → FailsHere (taken_line side left)
-taken-here side left number line e h = by (mark_at side line) h
+taken-here side left number line e h = by (shown_at side line) h
   where
     room : (m : Shown) (b : Bool) → cond b (Err (fault number kinds.Count)) (Ok m) ≡ failed {A = Shown} e → (e.line ≡ number) × (e.kind ≢ kinds.ShortEnd)
     room m true k = here-is number kinds.Count e (λ z. cc) (err_is {A = Shown} _ e k)
     room m false k = absurd cc
 
-    by : (o : Option (Mark × Bool)) → (must_be_marked number line o >>= λ m. room_at number left m) ≡ Err e → (e.line ≡ number) × (e.kind ≢ kinds.ShortEnd)
+    by : (o : Option Shown) → (must_be_marked number line o >>= λ m. room_at number left m) ≡ Err e → (e.line ≡ number) × (e.kind ≢ kinds.ShortEnd)
     by None k = here-is number (unmarked line) e (unmarked-kind line) (err_is {A = Shown} _ e k)
     by (Some m) k = room _ (eqb left 0) k
 
@@ -193,26 +193,26 @@ enough-same true number s q g e = ap (λ n. Err (fault n kinds.Count)) e
 enough-same false number s q g e = refl
 
 abbrev new_body : PlainPart → ℕ × Stated → Ahead → Result (PlainPart × Ahead) Fault
-new_body old s q = body_at Reversed (new_count s.1 old.body.lines q.rest) no_body q >>= λ b. Ok (part_with s b.0, b.1)
+new_body old s q = body_at Reversed (new_count s.1 old.body q.rest) no_body q >>= λ b. Ok (part_with s b.0, b.1)
 
 abbrev new_counted : PlainPart → ℕ × Stated → Ahead → Result (PlainPart × Ahead) Fault
 new_counted old s q = enough_line old s q >>= λ x. new_body old x.0 x.1
 
 abbrev new_rest : PlainPart → ℕ × Stated → Ahead → Result (PlainPart × Ahead) Fault
-new_rest old s q = checked_line (is_there s.1 old.body.lines) s q >>= λ x. new_counted old x.0 x.1
+new_rest old s q = checked_line (is_new s.1 old.body) s q >>= λ x. new_counted old x.0 x.1
 
 new-same : (old : PlainPart) (number : ℕ) (lines : List (List ℕ)) → (one_line new_range number lines >>= λ x. new_rest old x.0 x.1) ≡ new_part old (ahead number lines)
 unfolding new_part first_range
 new-same old number [] = refl
 new-same old number (line ∷ rest) = by (at_line number (range_line Reversed 0 line))
   where
-    inner : (s : Stated) (r : Result (Unit {0}) Fault) → (r >>= λ fits. new_counted old (number, s) (ahead (number + 1) rest)) ≡ (r >>= λ fits. enough number old >>= λ few. body_at Reversed (new_count s old.body.lines rest) no_body (ahead (number + 1) rest) >>= λ b. Ok (part_with (number, s) b.0, b.1))
+    inner : (s : Stated) (r : Result (Unit {0}) Fault) → (r >>= λ fits. new_counted old (number, s) (ahead (number + 1) rest)) ≡ (r >>= λ fits. enough number old >>= λ few. body_at Reversed (new_count s old.body rest) no_body (ahead (number + 1) rest) >>= λ b. Ok (part_with (number, s) b.0, b.1))
     inner s (Ok x) = enough-same (too_few old.stated old.body.lines) number (number, s) (ahead (number + 1) rest) (λ x. new_body old x.0 x.1) (one-less number)
     inner s (Err d) = refl
 
     by : (r : Result Stated Fault) → (((r >>= λ s. numbered number s) >>= with_rest (ahead (number + 1) rest)) >>= λ x. new_rest old x.0 x.1)
-        ≡ ((r >>= and_ahead (ahead (number + 1) rest)) >>= λ s. fitting number s.0 (is_there s.0 old.body.lines s.1.rest) >>= λ fits. enough number old >>= λ few. body_at Reversed (new_count s.0 old.body.lines s.1.rest) no_body s.1 >>= λ b. Ok (part_with (number, s.0) b.0, b.1))
-    by (Ok s) = checked-same (large_test (is_there s old.body.lines) s rest) number (number, s) (ahead (number + 1) rest) (λ x. new_counted old x.0 x.1) (one-less number) ∙ inner s (fitting number s (is_there s old.body.lines rest))
+        ≡ ((r >>= and_ahead (ahead (number + 1) rest)) >>= λ s. fitting number s.0 (is_new s.0 old.body s.1.rest) >>= λ fits. enough number old >>= λ few. body_at Reversed (new_count s.0 old.body s.1.rest) no_body s.1 >>= λ b. Ok (part_with (number, s.0) b.0, b.1))
+    by (Ok s) = checked-same (large_test (is_new s old.body) s rest) number (number, s) (ahead (number + 1) rest) (λ x. new_counted old x.0 x.1) (one-less number) ∙ inner s (fitting number s (is_new s old.body rest))
     by (Err d) = refl
 
 there-same : (s : Stated) (olds : List Marked) (line : List ℕ) (rest others : List (List ℕ)) → is_there s olds (line ∷ rest) ≡ is_there s olds (line ∷ others)
@@ -222,21 +222,21 @@ there-same s olds line rest others = by s.start s.count
     by start None = refl
     by start (Some n) = refl
 
-there-looks : (s : Stated) (olds : List Marked) → LooksAhead (is_there s olds)
-there-looks s olds = record { same = λ line rest others. there-same s olds line rest others }
+new-looks : (s : Stated) (old : PlainBody) → LooksAhead (is_new s old)
+new-looks s old = record { same = λ line rest others. ap (λ b. b || (is_needed s old && begins_shown (line ∷ rest))) (there-same s old.lines line rest others) }
 
 counted-by : (n : ℕ) (b : Bool) (q : Ahead) → cond b (body_at Reversed n no_body q) (body_at Reversed 0 no_body q) ≡ body_at Reversed (cond b n 0) no_body q
 counted-by n true q = refl
 counted-by n false q = refl
 
-steady-counted : (s : Stated) (olds : List Marked) → Steady (λ q. body_at Reversed (new_count s olds q.rest) no_body q)
-steady-counted s olds = steady-same (λ q. cond (is_there s olds q.rest) (body_at Reversed (most s) no_body q) (body_at Reversed 0 no_body q)) (λ q. body_at Reversed (new_count s olds q.rest) no_body q) (λ q. counted-by (most s) (is_there s olds q.rest) q)
-    (steady-test (is_there s olds) (body_at Reversed (most s) no_body) (body_at Reversed 0 no_body) (there-looks s olds) (steady-body Reversed (most s) no_body) (steady-body Reversed 0 no_body))
+steady-counted : (s : Stated) (old : PlainBody) → Steady (λ q. body_at Reversed (new_count s old q.rest) no_body q)
+steady-counted s old = steady-same (λ q. cond (is_new s old q.rest) (body_at Reversed (most s) no_body q) (body_at Reversed 0 no_body q)) (λ q. body_at Reversed (new_count s old q.rest) no_body q) (λ q. counted-by (most s) (is_new s old q.rest) q)
+    (steady-test (is_new s old) (body_at Reversed (most s) no_body) (body_at Reversed 0 no_body) (new-looks s old) (steady-body Reversed (most s) no_body) (steady-body Reversed 0 no_body))
 
 pub steady-new : (old : PlainPart) → Steady (new_part old)
 steady-new old = steady-same (λ p. one_line new_range p.number p.rest >>= λ x. new_rest old x.0 x.1) (new_part old) (λ p. new-same old p.number p.rest)
-    (steady-then (λ p. one_line new_range p.number p.rest) (new_rest old) (steady-line new_range new-here) (λ s. steady-then (checked_line (is_there s.1 old.body.lines) s) (new_counted old) (steady-checked (is_there s.1 old.body.lines) s (there-looks s.1 old.body.lines))
-    (λ t. steady-then (enough_line old t) (new_body old) (steady-enough old t) (λ u. steady-then (λ q. body_at Reversed (new_count u.1 old.body.lines q.rest) no_body q) (λ b q. Ok (part_with u b, q)) (steady-counted u.1 old.body.lines) (λ b. steady-value (part_with u b))))))
+    (steady-then (λ p. one_line new_range p.number p.rest) (new_rest old) (steady-line new_range new-here) (λ s. steady-then (checked_line (is_new s.1 old.body) s) (new_counted old) (steady-checked (is_new s.1 old.body) s (new-looks s.1 old.body))
+    (λ t. steady-then (enough_line old t) (new_body old) (steady-enough old t) (λ u. steady-then (λ q. body_at Reversed (new_count u.1 old.body q.rest) no_body q) (λ b q. Ok (part_with u b, q)) (steady-counted u.1 old.body) (λ b. steady-value (part_with u b))))))
 
 -- ---- both
 

@@ -21,7 +21,7 @@ use Rattle.context_form.specs.Ranges.{before_range, behind_range, most, is_count
 use Rattle.context_form.specs.Parts.{Shown, marked_at, first_line, PlainBody, plain_of, no_body, body_at}
 use Rattle.context_form.specs.Merging.{agrees, merge, alone, joined_by, joined, kept_count, size_by}
 use Rattle.context_form.specs.Hunks.{PlainPart, fitting, range_here, old_part, too_few, enough, new_part, sized, whole, parts_at, first_hunk}
-use Rattle.context_form.specs.Presence.{is_there, begins_old_part}
+use Rattle.context_form.specs.Presence.{is_new, begins_old_part}
 use Rattle.context_form.proofs.JoinLemmas.{kept-cons}
 use Rattle.context_form.proofs.MergeLemmas.{nothing, view-more}
 
@@ -185,22 +185,22 @@ pub old-read : (least : ℕ) (p : Ahead) (s : Stated × Ahead) (x : PlainBody ×
 unfolding old_part
 old-read least p s x b n a there fits is h = rw (a, sym there, fits, sym is, h) refl
 
-pub new-fits-fails : (e : FormFault) (old : PlainPart) (p : Ahead) (s : Stated × Ahead) (b : Bool) → range_here Reversed 0 p ≡ Ok s → b ≡ is_there s.0 old.body.lines s.1.rest → Fails e (fitting p.number s.0 b) → Fails e (new_part old p)
+pub new-fits-fails : (e : FormFault) (old : PlainPart) (p : Ahead) (s : Stated × Ahead) (b : Bool) → range_here Reversed 0 p ≡ Ok s → b ≡ is_new s.0 old.body s.1.rest → Fails e (fitting p.number s.0 b) → Fails e (new_part old p)
 unfolding new_part
 new-fits-fails errors.Memory old p s b a there h = tt
 new-fits-fails (errors.Malformed line kind) old p s b a there h = rw (a, sym there, h) refl
 
-pub new-few-fails : (e : FormFault) (old : PlainPart) (p : Ahead) (s : Stated × Ahead) (b : Bool) → range_here Reversed 0 p ≡ Ok s → b ≡ is_there s.0 old.body.lines s.1.rest → fitting p.number s.0 b ≡ Ok tt → Fails e (enough p.number old) → Fails e (new_part old p)
+pub new-few-fails : (e : FormFault) (old : PlainPart) (p : Ahead) (s : Stated × Ahead) (b : Bool) → range_here Reversed 0 p ≡ Ok s → b ≡ is_new s.0 old.body s.1.rest → fitting p.number s.0 b ≡ Ok tt → Fails e (enough p.number old) → Fails e (new_part old p)
 unfolding new_part
 new-few-fails errors.Memory old p s b a there fits h = tt
 new-few-fails (errors.Malformed line kind) old p s b a there fits h = rw (a, sym there, fits, h) refl
 
-pub new-body-fails : (e : FormFault) (old : PlainPart) (p : Ahead) (s : Stated × Ahead) (b : Bool) (n : ℕ) → range_here Reversed 0 p ≡ Ok s → b ≡ is_there s.0 old.body.lines s.1.rest → fitting p.number s.0 b ≡ Ok tt → enough p.number old ≡ Ok tt → n ≡ cond b (most s.0) 0 → Fails e (body_at Reversed n no_body s.1) → Fails e (new_part old p)
+pub new-body-fails : (e : FormFault) (old : PlainPart) (p : Ahead) (s : Stated × Ahead) (b : Bool) (n : ℕ) → range_here Reversed 0 p ≡ Ok s → b ≡ is_new s.0 old.body s.1.rest → fitting p.number s.0 b ≡ Ok tt → enough p.number old ≡ Ok tt → n ≡ cond b (most s.0) 0 → Fails e (body_at Reversed n no_body s.1) → Fails e (new_part old p)
 unfolding new_part
 new-body-fails errors.Memory old p s b n a there fits all is h = tt
 new-body-fails (errors.Malformed line kind) old p s b n a there fits all is h = rw (a, sym there, fits, all, sym is, h) refl
 
-pub new-read : (old : PlainPart) (p : Ahead) (s : Stated × Ahead) (x : PlainBody × Ahead) (b : Bool) (n : ℕ) → range_here Reversed 0 p ≡ Ok s → b ≡ is_there s.0 old.body.lines s.1.rest → fitting p.number s.0 b ≡ Ok tt → enough p.number old ≡ Ok tt → n ≡ cond b (most s.0) 0 → body_at Reversed n no_body s.1 ≡ Ok x → new_part old p ≡ Ok (record { number = p.number; stated = s.0; body = x.0 }, x.1)
+pub new-read : (old : PlainPart) (p : Ahead) (s : Stated × Ahead) (x : PlainBody × Ahead) (b : Bool) (n : ℕ) → range_here Reversed 0 p ≡ Ok s → b ≡ is_new s.0 old.body s.1.rest → fitting p.number s.0 b ≡ Ok tt → enough p.number old ≡ Ok tt → n ≡ cond b (most s.0) 0 → body_at Reversed n no_body s.1 ≡ Ok x → new_part old p ≡ Ok (record { number = p.number; stated = s.0; body = x.0 }, x.1)
 unfolding new_part
 new-read old p s x b n a there fits all is h = rw (a, sym there, fits, all, sym is, h) refl
 

@@ -1,8 +1,10 @@
 -- A hunk that a piece of a text spells breaks no rule.
-use Rattle.std.proofs.Common.{◌≡◌, ℕ, suc, ◌<◌, ◌≤◌, Bool, true, false, not, cond, eqb, ◌||◌, List, [], ◌∷◌, ◌++◌, length, None, refl, ap, subst, ◌∙◌, arith}
-use Rattle.std.proofs.lemmas.Bool.{ne_eqb}
+use Rattle.std.proofs.Common.{◌≡◌, ℕ, suc, ◌<◌, ◌≤◌, Bool, true, false, not, cond, eqb, ◌||◌, List, [], ◌∷◌, ◌++◌, length, None, refl, sym, ap, subst, ◌∙◌, arith, inl, inr}
+use Rattle.std.proofs.lemmas.Bool.{eqb-true, ne_eqb}
 use Rattle.std.proofs.lemmas.List.{length-map}
 use Rattle.line_list.specs.Lines.{IsLine, ArePieces}
+use Rattle.hunk_core.specs.declared.Mark.{Mark}
+use Rattle.hunk_core.specs.declared.Mark.TheVariants as its
 use Rattle.hunk_core.specs.declared.Side.{Side}
 use Rattle.hunk_core.specs.declared.Side.TheVariants.{Forward, Reversed}
 use Rattle.hunk_core.specs.Sides.{is_on_side}
@@ -16,7 +18,8 @@ use Rattle.hunk_core.proofs.RuleLemmas.{no-rule, zero-start, no-run}
 use Rattle.hunk_core.proofs.LineEnds.{line-ends, lacks-step}
 use Rattle.context_form.specs.Merging.{part_of}
 use Rattle.context_form.specs.Presence.{is_there}
-use Rattle.context_form.specs.Grammar.{mark_byte, SpellsLine, SpellsPart, SpellsNumbers, SpellsSide, SpellsHunk, SpellsPiece, stated_as, written}
+use Rattle.context_form.specs.Parts.{behind_blank}
+use Rattle.context_form.specs.Grammar.{mark_byte, Shows, SpellsLine, SpellsPart, SpellsNumbers, SpellsSide, SpellsHunk, SpellsPiece, stated_as, written}
 use Rattle.context_form.proofs.JoinLemmas.{kept-other}
 use Rattle.context_form.proofs.Again.{on-length}
 use Rattle.context_form.proofs.Canonical.{lines_of}
@@ -51,13 +54,39 @@ at-end least own behind h s = record {
   old_fits = s.old_fits;
   new_fits = s.new_fits;
   order = s.order;
+  begins = s.begins;
   told = λ e. not-there s.new_single h.new_start (length (part_of Reversed h.body)) (written Forward s.old h.body);
 }
 
 -- ---- a line that stands before another has its line feed
-behind-two : (b : ℕ) (line : List ℕ) → IsLine (b ∷ 32 ∷ line) → ends_line line ≡ true
-behind-two b [] h = absurd (let bad : 32 ≡ 10 = h.1 in cc)
-behind-two b (c ∷ bytes) h = line-ends (c ∷ bytes) h.1.1
+not-feed : (changed : Bool) (mark : Mark) → mark_byte changed mark ≡ 10 → ⊥
+not-feed changed its.Keep e = cc
+not-feed true its.Drop e = cc
+not-feed false its.Drop e = cc
+not-feed true its.Add e = cc
+not-feed false its.Add e = cc
+
+blank-ends : (c : ℕ) (bytes : List ℕ) → IsLine (c ∷ bytes) → ends_line (behind_blank (c ∷ bytes)) ≡ true
+blank-ends c [] h = by (eqb c 32) (eqb c 9) refl refl
+  where
+    by : (v w : Bool) → eqb c 32 ≡ v → eqb c 9 ≡ w → ends_line (cond v [] (cond w [] (c ∷ []))) ≡ true
+    by true w e f = absurd (let a : c ≡ 32 = eqb-true c 32 e in let b : c ≡ 10 = h in omega (arith, a, b))
+    by false true e f = absurd (let a : c ≡ 9 = eqb-true c 9 f in let b : c ≡ 10 = h in omega (arith, a, b))
+    by false false e f = line-ends (c ∷ []) h
+blank-ends c (d ∷ bytes) h = by (eqb c 32) (eqb c 9)
+  where
+    by : (v w : Bool) → ends_line (cond v (d ∷ bytes) (cond w (d ∷ bytes) (c ∷ d ∷ bytes))) ≡ true
+    by true w = line-ends (d ∷ bytes) h.1
+    by false true = line-ends (d ∷ bytes) h.1
+    by false false = line-ends (c ∷ d ∷ bytes) h
+
+behind-mark : (changed : Bool) (mark : Mark) (bytes : List ℕ) → IsLine (mark_byte changed mark ∷ bytes) → ends_line (behind_blank bytes) ≡ true
+behind-mark changed mark [] h = absurd (not-feed changed mark h)
+behind-mark changed mark (c ∷ bytes) h = blank-ends c bytes h.1
+
+shown-ends : (line : List ℕ) (m : Marked) → Shows line m → IsLine line → ends_line m.line ≡ true
+shown-ends line m (inl h) whole = subst (λ l. ends_line l ≡ true) (sym h.3) (behind-mark h.0 m.mark h.1 (subst IsLine h.2 whole))
+shown-ends line m (inr h) whole = subst (λ (x : Marked). ends_line x.line ≡ true) (sym h.1) (line-ends line whole)
 
 part-some : (piece : List (List ℕ)) (part : List Marked) → SpellsPart piece part → 0 < length part → 0 < length piece
 part-some piece [] s some = absurd (omega (arith, some))
@@ -70,7 +99,7 @@ part-some (line ∷ piece) (m ∷ part) s some = omega arith
 
 ends-inner : (own rest : List (List ℕ)) (m : Marked) (others : List Marked) → SpellsLine own m others → SpellsPart rest others → 0 < length others → ArePieces (own ++ rest) → ends_line m.line ≡ true
 ends-inner [] rest m others h s some pieces = absurd h
-ends-inner (line ∷ []) rest m others h s some pieces = behind-two (mark_byte h.0 m.mark) m.line (subst IsLine h.1 (whole-before line rest (part-some rest others s some) pieces))
+ends-inner (line ∷ []) rest m others h s some pieces = shown-ends line m h (whole-before line rest (part-some rest others s some) pieces)
 ends-inner (line ∷ mark ∷ []) rest m others h s some pieces = absurd (omega (arith, some, ap length h.1))
 ends-inner (line ∷ mark ∷ other ∷ own) rest m others h s some pieces = absurd h
 

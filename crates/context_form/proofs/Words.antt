@@ -16,9 +16,8 @@ use Rattle.context_form.specs.Openings.{is_stars, has_number, opens_old, begins_
 use Rattle.context_form.specs.Parts.{mark_at}
 use Rattle.context_form.specs.Merging.{kept_count, part_of}
 use Rattle.context_form.specs.Presence.{may_begin, begins_part, drops_alone, is_there, Begins, BeginsChange}
-use Rattle.context_form.specs.Grammar.{mark_byte, stated_as, written, SpellsHunk}
+use Rattle.context_form.specs.Grammar.{mark_byte, stated_as}
 use Rattle.context_form.proofs.PartLemmas.{mark-takes, mark-again}
-use Rattle.context_form.proofs.HalvesAgain.{there-again}
 use Rattle.context_form.proofs.Pieces.{opens-both}
 
 -- ---- the opening
@@ -140,6 +139,3 @@ other-words start n olds rest some other =
 
 pub two-words : (start n : ℕ) (olds : List Marked) (rest : List (List ℕ)) → is_there (stated_as false start n) olds rest ≡ true ↔ (Begins 32 rest ⊎ BeginsChange rest)
 two-words start n olds rest = (λ e. tells true rest e, λ h. told true rest h)
-
-pub written-words : (least : ℕ) (own behind : List (List ℕ)) (h : PlainHunk) (s : SpellsHunk least own behind h) → 0 < length s.new → is_there (stated_as s.new_single h.new_start (length (part_of Reversed h.body))) (written Forward s.old h.body) (s.new ++ behind) ≡ true
-written-words least own behind h s some = there-again s.new_single s.new_line h.new_start s.old s.new behind h.body s.new_range s.new_part some

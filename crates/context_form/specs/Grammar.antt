@@ -1,20 +1,20 @@
 -- The grammar of the context form, apart from any reading: which lines spell which hunks.
-use Rattle.std.specs.Prelude.{◌≡◌, ℕ, ◌+◌, ◌^◌, ◌<◌, ◌≤◌, Bool, true, false, ◌||◌, List, [], ◌∷◌, ◌++◌, length, None, Some, is_some, if◌then◌else◌}
+use Rattle.std.specs.Prelude.{◌≡◌, ℕ, ◌+◌, ◌^◌, ◌<◌, ◌≤◌, Bool, true, false, ◌==◌, ◌||◌, ◌⊎◌, List, [], ◌∷◌, ◌++◌, length, None, Some, if◌then◌else◌}
 use Rattle.std.specs.List.{AllByRecursion}
 use Rattle.hunk_core.specs.declared.Mark.{Mark}
 use Rattle.hunk_core.specs.declared.Mark.TheVariants.{Keep, Drop, Add}
 use Rattle.hunk_core.specs.declared.Side.{Side}
 use Rattle.hunk_core.specs.declared.Side.TheVariants.{Forward, Reversed}
 use Rattle.hunk_core.specs.PlainHunk.{Marked, PlainHunk}
-use Rattle.hunk_core.specs.LineTests.{after, unended, is_backslash}
+use Rattle.hunk_core.specs.LineTests.{marked, unended, is_backslash}
 use Rattle.num_text.specs.Numbers.{IsNumeral}
-use Rattle.hunk_core.specs.Letters.{is_line_end}
 use Rattle.hunk_core.specs.Following.{SpellsEach, IsPieceOf}
 use Rattle.context_form.specs.declared.range.Stated.{Stated}
 use Rattle.context_form.specs.Openings.{is_stars, begins_hunk}
 use Rattle.context_form.specs.Ranges.{before_range, behind_range}
 use Rattle.context_form.specs.Merging.{part_of, DropsFirst}
-use Rattle.context_form.specs.Presence.{is_there}
+use Rattle.context_form.specs.Parts.{PlainBody, behind_blank, begins_new}
+use Rattle.context_form.specs.Presence.{is_there, is_new}
 
 -- ---- range lines
 
@@ -24,25 +24,29 @@ SpellsNumbers text true start count = IsNumeral text start × (count < 2) × (st
 SpellsNumbers text false start count = (first : List ℕ) × (second : List ℕ) × (last : ℕ) × (text ≡ first ++ 44 ∷ second) × IsNumeral first start × IsNumeral second last
     × (1 ≤ start) × (start ≤ last) × (start + count ≡ last + 1)
 
--- '*** ', numbers, ' ****' for an old part; '--- ', numbers, ' ----' for a new one
+-- '*** ', numbers, ' ****' for an old part; '--- ', numbers, ' ----' for a new one; and any rest
 pub record SpellsRange (side : Side) (line : List ℕ) (single : Bool) (start count : ℕ) : Type 0 where
   pub text : List ℕ
   pub rest : List ℕ
   pub parts : line ≡ before_range side ++ (text ++ (behind_range side ++ rest))
-  pub ends : is_line_end rest ≡ true
   pub numbers : SpellsNumbers text single start count
 
 -- ---- parts
 
--- two spaces for a kept line; '- ' or '! ' for a dropped one, '+ ' or '! ' for an added one
+-- a space for a kept line; '-' or '!' for a dropped one, '+' or '!' for an added one
 abbrev pub mark_byte : Bool → Mark → ℕ
 mark_byte changed Keep = 32
 mark_byte changed Drop = if changed then 33 else 45
 mark_byte changed Add = if changed then 33 else 43
 
--- a line shows a marked line behind two bytes
+-- nothing but its line feed
+abbrev pub IsEmptyLine : List ℕ → Type 0
+IsEmptyLine [] = ⊥
+IsEmptyLine (b ∷ bytes) = b ≡ 10
+
+-- a line shows a marked line behind its mark and one blank, if there is one, and isn't taken for the range line of a new part; an empty line shows a kept one
 abbrev pub Shows : List ℕ → Marked → Type 0
-Shows line m = (changed : Bool) × (line ≡ mark_byte changed m.mark ∷ 32 ∷ m.line)
+Shows line m = ((changed : Bool) × (bytes : List ℕ) × (line ≡ mark_byte changed m.mark ∷ bytes) × (m.line ≡ behind_blank bytes) × (begins_new (line ∷ []) ≡ false)) ⊎ (IsEmptyLine line × (m ≡ marked Keep line))
 
 -- the lines that a line of a part takes, before these others: itself, and a backslash line where it is the last and has no line feed
 abbrev pub SpellsLine : List (List ℕ) → Marked → List Marked → Type 0
@@ -56,11 +60,12 @@ abbrev pub SpellsPart : List (List ℕ) → List Marked → Type 0
 SpellsPart piece [] = piece ≡ []
 SpellsPart piece (m ∷ part) = (own : List (List ℕ)) × (rest : List (List ℕ)) × (piece ≡ own ++ rest) × SpellsLine own m part × SpellsPart rest part
 
--- '! ' comes first
+-- '!' comes first
 abbrev pub is_change : List ℕ → Bool
-is_change line = is_some (after (33 ∷ 32 ∷ []) line)
+is_change [] = false
+is_change (b ∷ bytes) = b == 33
 
--- a line of a part is marked '! '
+-- a line of a part is marked '!'
 abbrev pub has_change : List (List ℕ) → Bool
 has_change [] = false
 has_change (line ∷ piece) = is_change line || has_change piece
@@ -69,7 +74,7 @@ has_change (line ∷ piece) = is_change line || has_change piece
 abbrev pub AreKept : List Marked → Type 0
 AreKept part = AllByRecursion (λ m. m.mark ≡ Keep) part
 
--- the part of a body, beside its partner: written out, or left out, where the part has no changes, and its partner no '! '
+-- the part of a body, beside its partner: written out, or left out, where the part has no changes, and its partner no '!'
 abbrev pub SpellsSide : Side → List (List ℕ) → List (List ℕ) → List Marked → Type 0
 SpellsSide side [] partner body = AreKept (part_of side body) × (has_change partner ≡ false)
 SpellsSide side (line ∷ piece) partner body = SpellsPart (line ∷ piece) (part_of side body)
@@ -85,6 +90,10 @@ stated_as false start count = record { start = start; count = Some count }
 abbrev pub written : Side → List (List ℕ) → List Marked → List Marked
 written side [] body = []
 written side (line ∷ piece) body = part_of side body
+
+-- a part as its lines tell it
+abbrev pub told_by : Side → List (List ℕ) → List Marked → PlainBody
+told_by side piece body = record { lines = written side piece body; changed = has_change piece }
 
 -- these lines are this hunk, behind one that starts at least and before these others: asterisks, the old range, the old part, the new range, the new part
 pub record SpellsHunk (least : ℕ) (own behind : List (List ℕ)) (h : PlainHunk) : Type 0 where
@@ -109,6 +118,8 @@ pub record SpellsHunk (least : ℕ) (own behind : List (List ℕ)) (h : PlainHun
   pub old_fits : h.old_start + length (part_of Forward h.body) < 2 ^ 32
   pub new_fits : h.new_start + length (part_of Reversed h.body) < 2 ^ 32
   pub order : least ≤ h.old_start
+  -- a new part that is written is told by its first line
+  pub begins : 0 < length new → is_new (stated_as new_single h.new_start (length (part_of Reversed h.body))) (told_by Forward old h.body) new ≡ true
   -- no line follows that would begin a new part which is left out
   pub told : new ≡ [] → is_there (stated_as new_single h.new_start (length (part_of Reversed h.body))) (written Forward old h.body) behind ≡ false
 

@@ -14,7 +14,7 @@ use Rattle.context_form.specs.Openings.{begins_hunk}
 use Rattle.context_form.specs.Ranges.{range_line, most, is_count}
 use Rattle.context_form.specs.Parts.{PlainBody, plain_of, no_body, body_at}
 use Rattle.context_form.specs.Merging.{joined, size_beside}
-use Rattle.context_form.specs.Presence.{is_there, begins_old_part}
+use Rattle.context_form.specs.Presence.{is_new, begins_old_part}
 
 -- a part with its range line, which has this number
 pub record PlainPart : Type 0 where
@@ -62,16 +62,16 @@ abbrev pub enough : ℕ → PlainPart → Result (Unit {0}) Fault
 enough number old = if too_few old.stated old.body.lines then Err (fault number kinds.Count) else Ok tt
 
 -- how many lines are read of the new part
-abbrev pub new_count : Stated → List Marked → List (List ℕ) → ℕ
-new_count s olds rest = if is_there s olds rest then most s else 0
+abbrev pub new_count : Stated → PlainBody → List (List ℕ) → ℕ
+new_count s old rest = if is_new s old rest then most s else 0
 
 -- the new part behind this old part: its range line, and its lines
 unfoldable pub new_part : PlainPart → Ahead → Result (PlainPart × Ahead) Fault
 new_part old p = do
   s ← range_here Reversed 0 p
-  fits ← fitting p.number s.0 (is_there s.0 old.body.lines s.1.rest)
+  fits ← fitting p.number s.0 (is_new s.0 old.body s.1.rest)
   few ← enough p.number old
-  b ← body_at Reversed (new_count s.0 old.body.lines s.1.rest) no_body s.1
+  b ← body_at Reversed (new_count s.0 old.body s.1.rest) no_body s.1
   Ok (record { number = p.number; stated = s.0; body = b.0 }, b.1)
 
 -- a part with this partner has the stated number of lines, and none is above the greatest number

@@ -46,7 +46,7 @@ merge (m ∷ olds) news =
     then (if agrees m (from_kept news) then with_front (before_kept news ++ m ∷ []) (merge olds (rest_of (from_kept news))) else None)
     else with_front (m ∷ []) (merge olds news)
 
--- a part whose partner is left out is the body, unless it has a line with '! '
+-- a part whose partner is left out is the body, unless it has a line with '!'
 abbrev pub alone : PlainBody → Option (List Marked)
 alone b = if b.changed then None else Some b.lines
 

@@ -25,24 +25,39 @@ mark_by side b = if b == 32 then Some (its.Keep, false)
     else if b == own_byte side then Some (own_mark side, false)
     else None
 
--- the mark of a line of this part, two bytes, and whether it is '! '
+-- the mark of a line of this part that lost no blank, two bytes, and whether it is '! '
 abbrev pub mark_at : Side → List ℕ → Option (Mark × Bool)
 mark_at side [] = None
 mark_at side (b ∷ []) = None
 mark_at side (b ∷ c ∷ bytes) = if c == 32 then mark_by side b else None
 
--- a line of a part without its mark, and whether that was '! '
+-- a line of a part without its mark, and whether that was '!'
 abbrev pub Shown : Type 0
 Shown = Marked × Bool
 
--- a line of this part has a mark, which is taken off
-abbrev pub must_be_marked : ℕ → List ℕ → Option (Mark × Bool) → Result Shown Fault
+-- what stands behind a mark, without one blank or tab, if that comes first
+abbrev pub behind_blank : List ℕ → List ℕ
+behind_blank [] = []
+behind_blank (c ∷ bytes) = if c == 32 then bytes else if c == 9 then bytes else c ∷ bytes
+
+-- a mark is taken off, and the blank behind it
+abbrev pub taken_off : List ℕ → Option (Mark × Bool) → Option Shown
+taken_off bytes None = None
+taken_off bytes (Some m) = Some (marked m.0 (behind_blank bytes), m.1)
+
+-- a line of this part without its mark; an empty line is kept, and has lost both blanks
+abbrev pub shown_at : Side → List ℕ → Option Shown
+shown_at side [] = None
+shown_at side (b ∷ bytes) = if b == 10 then Some (marked its.Keep (b ∷ bytes), false) else taken_off bytes (mark_by side b)
+
+-- a line of this part has a mark, or is empty
+abbrev pub must_be_marked : ℕ → List ℕ → Option Shown → Result Shown Fault
 must_be_marked number line None = Err (fault number (unmarked line))
-must_be_marked number line (Some m) = Ok (marked m.0 (drop 2 line), m.1)
+must_be_marked number line (Some m) = Ok m
 
 -- a line of this part without its mark, or why it has none
 abbrev pub marked_at : ℕ → Side → List ℕ → Result Shown Fault
-marked_at number side line = must_be_marked number line (mark_at side line)
+marked_at number side line = must_be_marked number line (shown_at side line)
 
 -- where no line is left, one more is one too many
 abbrev pub room_at : ℕ → ℕ → Shown → Result Shown Fault
@@ -79,7 +94,7 @@ abbrev pub is_done : Side → ℕ → List (List ℕ) → Bool
 is_done Forward left rest = begins_new rest
 is_done Reversed left rest = left == 0
 
--- the lines of a part, and whether one of them was marked '! '
+-- the lines of a part, and whether one of them was marked '!'
 pub record PlainBody : Type 0 where
   pub lines : List Marked
   pub changed : Bool

@@ -7,7 +7,6 @@ use Rattle.hunk_core.specs.declared.Side.TheVariants.{Forward, Reversed}
 use Rattle.hunk_core.specs.LineTests.{after}
 use Rattle.num_text.specs.declared.range.NumberRange.{NumberRange}
 use Rattle.num_text.specs.NumberRanges.{range_at}
-use Rattle.hunk_core.specs.Letters.{is_line_end}
 use Rattle.hunk_core.specs.OptionSteps.{◌>>=◌}
 use Rattle.context_form.specs.declared.range.Stated.{Stated}
 
@@ -21,17 +20,13 @@ abbrev pub behind_range : Side → List ℕ
 behind_range Forward = 32 ∷ 42 ∷ 42 ∷ 42 ∷ 42 ∷ []
 behind_range Reversed = 32 ∷ 45 ∷ 45 ∷ 45 ∷ 45 ∷ []
 
--- a range with nothing more behind its line's end
-abbrev pub closed : NumberRange → Option (List ℕ) → Option NumberRange
-closed r None = None
-closed r (Some rest) = if is_line_end rest then Some r else None
-
--- a range between the stars or the dashes of this part
+-- a range between the stars or the dashes of this part, and any rest behind them
 unfoldable pub numbers_at : Side → List ℕ → Option NumberRange
 numbers_at side line = do
   first ← after (before_range side) line
   range ← range_at first
-  closed range.0 (after (behind_range side) range.1)
+  rest ← after (behind_range side) range.1
+  Some range.0
 
 -- two numbers, the second below the first, or lines that start at 0
 abbrev pub is_bad_range : NumberRange → Bool

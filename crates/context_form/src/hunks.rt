@@ -13,11 +13,11 @@ ghost use Rattle.context_form.specs.Parts.{plain_of};
 ghost use Rattle.context_form.specs.Merging.{joined, size_beside};
 ghost use Rattle.context_form.specs.Grammar.{IsPiece, SpellsPiece};
 ghost use Rattle.context_form.specs.Hunks.{fitting, part_over, range_here, old_part, enough, new_part, sized, whole, parts_at, hunk_at, reading};
-ghost use Rattle.context_form.specs.Presence.{begins_part, drops_alone, is_there, begins_old_part};
+ghost use Rattle.context_form.specs.Presence.{begins_part, drops_alone, is_there, begins_shown, is_needed, is_new, begins_old_part};
 
 use crate::merging::{joined, kept_lines};
 use crate::opening::at_opening;
-use crate::part::{Body, mark_of, read_body};
+use crate::part::{Body, can_show, mark_of, read_body};
 use crate::range::{Stated, stated_of};
 use hunk_core::{
     BadKind, FormFault, Hunk, HunkForm, HunkLine, Hunks, Mark, Place, Side, backslash_end, bad,
@@ -145,8 +145,8 @@ fn keeps_none(olds: &[HunkLine]) -> bool
     !olds.is_empty() && kept_lines(olds) == 0
 }
 
-/// Whether the new part is there.
-fn has_new(text: &[u8], stated: Stated, olds: &[HunkLine], at: usize) -> bool
+/// Whether the new part is there by a line that lost no blank.
+fn is_told(text: &[u8], stated: Stated, olds: &[HunkLine], at: usize) -> bool
     requires { at ≤ length text.now }
     ensures { result ≡ is_there stated (body_of text.now olds.now) (lines (drop at text.now)) }
 {
@@ -155,6 +155,38 @@ fn has_new(text: &[u8], stated: Stated, olds: &[HunkLine], at: usize) -> bool
         None if stated.start == 0 => false,
         None => at_part(text, !keeps_none(olds), at),
     }
+}
+
+/// Whether the new part has lines and can't be left out.
+fn is_needed(stated: Stated, olds: &[HunkLine], changed: bool) -> bool
+    ensures { (text : List ℕ) → result ≡ is_needed stated (record { lines = body_of text olds.now; changed = changed }) }
+{
+    if stated.most() == 0 {
+        return false;
+    }
+    changed || olds.is_empty() || !stated.is_count(kept_lines(olds) as u64)
+}
+
+/// Whether a line of the new part stands at `at`, also one that lost its blank.
+fn at_shown(text: &[u8], at: usize) -> bool
+    requires { at ≤ length text.now }
+    ensures { result ≡ begins_shown (lines (drop at text.now)) }
+{
+    match next_line(text, at) {
+        None => false,
+        Some(end) => can_show(&text[at..end], Side::Reversed),
+    }
+}
+
+/// Whether the new part is there.
+fn has_new(text: &[u8], stated: Stated, old: &Body, at: usize) -> bool
+    requires { at ≤ length text.now }
+    ensures { result ≡ is_new stated (plain_of text.now old.now) (lines (drop at text.now)) }
+{
+    if is_told(text, stated, &old.lines, at) {
+        return true;
+    }
+    is_needed(stated, &old.lines, old.changed) && at_shown(text, at)
 }
 
 /// How many lines are read of a part that is there or left out.
@@ -181,7 +213,7 @@ fn read_new(
 {
     let number = place.number;
     let (stated, place) = read_range_line(text, Side::Reversed, 0, place)?;
-    let is_there = has_new(text, stated, &old.body.lines, place.at);
+    let is_there = has_new(text, stated, &old.body, place.at);
     fits_part(stated, is_there, number)?;
     has_enough(old, number)?;
     let most = lines_of(stated, is_there);

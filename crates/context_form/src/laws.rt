@@ -39,7 +39,7 @@ pub fn grammar_in_words()
     // 15 asterisks, and behind their line '*** ' and a digit.
     ensures opening { (lines : List (List ℕ)) → begins_hunk lines ≡ true
         ↔ ((bytes : List ℕ) × (d : ℕ) × (more : List ℕ) × (rest : List (List ℕ)) × (lines ≡ (replicate 15 42 ++ bytes) ∷ (42 ∷ 42 ∷ 42 ∷ 32 ∷ d ∷ more) ∷ rest) × (is_digit d ≡ true)) }
-    // A new part is left out for 0.
+    // A new part that lost no blank is left out for 0.
     ensures zero { (olds : List Marked) (rest : List (List ℕ)) → is_there (stated_as true 0 0) olds rest ≡ false }
     // Behind one number, and an old part that is there and keeps no line, it is there where '+ ' or '! ' follows.
     ensures alone { (start n : ℕ) (olds : List Marked) (rest : List (List ℕ)) → 0 < start → 0 < length olds → kept_count olds ≡ 0
@@ -48,7 +48,4 @@ pub fn grammar_in_words()
     ensures other { (start n : ℕ) (olds : List Marked) (rest : List (List ℕ)) → 0 < start → (length olds ≡ 0) ⊎ (0 < kept_count olds)
         → is_there (stated_as true start n) olds rest ≡ true ↔ (Begins 32 rest ⊎ BeginsChange rest) }
     ensures two { (start n : ℕ) (olds : List Marked) (rest : List (List ℕ)) → is_there (stated_as false start n) olds rest ≡ true ↔ (Begins 32 rest ⊎ BeginsChange rest) }
-    // A new part that is written is there.
-    ensures written { (least : ℕ) (own behind : List (List ℕ)) (h : PlainHunk) (s : SpellsHunk least own behind h) → 0 < length s.new
-        → is_there (stated_as s.new_single h.new_start (length (part_of Side.Reversed h.body))) (written Side.Forward s.old h.body) (s.new ++ behind) ≡ true }
 {}

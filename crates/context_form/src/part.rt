@@ -7,7 +7,7 @@ ghost use Rattle.hunk_core.specs.Turned.{LiesIn};
 ghost use Rattle.hunk_core.specs.Reading.{Gives, IsPlace, ahead_of};
 ghost use Rattle.hunk_core.specs.LineTests.{after, is_backslash};
 ghost use Rattle.context_form.specs.Ranges.{before_range};
-ghost use Rattle.context_form.specs.Parts.{own_byte, mark_by, mark_at, marked_at, room_at, line_at, begins_new, is_done, plain_of, no_body, body_at};
+ghost use Rattle.context_form.specs.Parts.{own_byte, mark_by, mark_at, behind_blank, shown_at, marked_at, room_at, line_at, begins_new, is_done, plain_of, no_body, body_at};
 ghost use Rattle.hunk_core.specs.Sides.{own_mark};
 ghost use Rattle.hunk_core.specs.Refusals.{unmarked};
 
@@ -18,7 +18,7 @@ use hunk_core::{
 use line_list::{Span, next_line};
 use std::alloc::Global;
 
-/// The lines of a part, and whether one of them was marked `! `.
+/// The lines of a part, and whether one of them was marked `!`.
 #[derive(Drop)]
 pub struct Body {
     pub lines: Vec<HunkLine>,
@@ -58,14 +58,42 @@ fn mark_of_byte(byte: u8, side: Side) -> Option<(Mark, bool)>
     }
 }
 
-/// The mark of a line of this part, two bytes, and whether it is `! `.
+/// The mark of a line of this part that lost no blank, two bytes, and whether it is `! `.
 pub fn mark_of(line: &[u8], side: Side) -> Option<(Mark, bool)>
-    ensures exact { result ≡ mark_at side line.now }
-    ensures long { IfSome result (λ x. 2 ≤ length line.now) }
+    ensures { result ≡ mark_at side line.now }
 {
     match line {
         [byte, b' ', ..] => mark_of_byte(*byte, side),
         _ => None,
+    }
+}
+
+/// Whether a line can be one of this part.
+pub fn can_show(line: &[u8], side: Side) -> bool
+    ensures { result ≡ is_some (shown_at side line.now) }
+{
+    match line {
+        [] => false,
+        [b'\n', ..] => true,
+        [byte, ..] => mark_of_byte(*byte, side).is_some(),
+    }
+}
+
+/// Where the text of a line begins that has its mark in front of `at`: one blank is left out.
+fn text_start(text: &[u8], at: usize, end: usize) -> usize
+    requires low { at ≤ end }
+    requires high { end ≤ length text.now }
+    ensures low { at ≤ result }
+    ensures high { result ≤ end }
+    ensures exact { slice_range text.now result end ≡ behind_blank (slice_range text.now at end) }
+{
+    if at == end {
+        return at;
+    }
+    match text[at] {
+        b' ' => at + 1,
+        b'\t' => at + 1,
+        _ => at,
     }
 }
 
@@ -80,7 +108,7 @@ fn unmarked_kind(line: &[u8]) -> BadKind
     }
 }
 
-/// What stands behind the mark of a line that must have one, and whether that is `! `.
+/// What stands behind the mark of a line that must have one, and whether that is `!`. An empty line is kept.
 fn marked_line(
     text: &[u8],
     at: usize,
@@ -95,11 +123,24 @@ fn marked_line(
     ensures order { IfOk result (λ x. x.0.span.start ≤ end) }
     ensures exact { Gives (λ x. (marked_of text.now x.0, x.1)) result (marked_at number side (slice_range text.now at end)) }
 {
-    let line = &text[at..end];
-    let Some((mark, is_change)) = mark_of(line, side) else {
-        return Err(bad(number, unmarked_kind(line)));
+    let byte = text[at];
+    if byte == b'\n' {
+        let span = Span {
+            start: at as u32,
+            end: end as u32,
+        };
+        return Ok((
+            HunkLine {
+                mark: Mark::Keep,
+                span,
+            },
+            false,
+        ));
+    }
+    let Some((mark, is_change)) = mark_of_byte(byte, side) else {
+        return Err(bad(number, unmarked_kind(&text[at..end])));
     };
-    let start = at + 2;
+    let start = text_start(text, at + 1, end);
     let span = Span {
         start: start as u32,
         end: end as u32,
@@ -107,7 +148,7 @@ fn marked_line(
     Ok((HunkLine { mark, span }, is_change))
 }
 
-/// A line of a part of which so many are left, whether it was marked `! `, and the place after it.
+/// A line of a part of which so many are left, whether it was marked `!`, and the place after it.
 #[tactic(auto, unfolding(crate::specs::Parts::first_line))]
 fn line_of(
     text: &[u8],

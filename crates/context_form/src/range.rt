@@ -4,7 +4,7 @@ ghost use Rattle.std.specs.Prelude.{◌≡◌, ◌<◌, ◌≤◌, ◌^◌, IfOk
 ghost use Rattle.num_text.specs.NumberRanges.{HasSmallEnds};
 ghost use Rattle.context_form.specs.Ranges.{before_range, behind_range, numbers_at, is_bad_range, is_too_large, stated, checked, range_line, most, is_count, Fits};
 
-use hunk_core::{BadKind, Side, after_prefix, ends_here};
+use hunk_core::{BadKind, Side, after_prefix};
 use num_text::{NumberRange, read_range};
 
 /// What a range line states: a start, and how many lines there are. Without a count the part has one
@@ -41,10 +41,8 @@ fn numbers_of(line: &[u8], side: Side) -> Option<NumberRange>
 {
     let rest = after_prefix(line, before(side))?;
     let (range, rest) = read_range(rest)?;
-    match after_prefix(rest, behind(side)) {
-        Some(rest) if ends_here(rest) => Some(range),
-        _ => None,
-    }
+    after_prefix(rest, behind(side))?;
+    Some(range)
 }
 
 /// Whether two numbers are turned round, or speak of lines from 0 on.

@@ -13,9 +13,9 @@ use Rattle.hunk_core.specs.LineTests.{after, is_backslash, after_backslash}
 use Rattle.hunk_core.specs.Reading.{◌>>=◌, Fault, fault, Ahead, ahead}
 use Rattle.line_list.proofs.Choices.{chosen}
 use Rattle.hunk_core.proofs.TextLemmas.{backslash-words}
-use Rattle.context_form.specs.Parts.{Shown, PlainBody, mark_at, must_be_marked, marked_at, room_at, cut, ended_by, first_line, line_at, is_done, with_line, body_at}
-use Rattle.context_form.specs.Grammar.{mark_byte, SpellsLine}
-use Rattle.context_form.proofs.PartLemmas.{mark-again, TakesLine, line_takes}
+use Rattle.context_form.specs.Parts.{Shown, PlainBody, shown_at, must_be_marked, marked_at, room_at, cut, ended_by, first_line, line_at, is_done, with_line, body_at}
+use Rattle.context_form.specs.Grammar.{mark_byte, IsEmptyLine, SpellsLine}
+use Rattle.context_form.proofs.PartLemmas.{byte-again, empty-again, shows-marks, TakesLine, line_takes}
 use Rattle.hunk_core.specs.Refusals.{unmarked}
 use Rattle.hunk_core.proofs.FaultSteps.{failed, err_is, bind_err}
 use Rattle.hunk_core.proofs.Agreeing.{after_backslash-some}
@@ -45,22 +45,14 @@ none_clear : (side : Side) → Clear side []
 none_clear Forward = tt
 none_clear Reversed = tt
 
-mark_clear : (changed : Bool) (mark : Mark) (bytes : List ℕ) → has_dashes (mark_byte changed mark ∷ 32 ∷ bytes) ≡ false
-unfolding after
-mark_clear changed its.Keep bytes = refl
-mark_clear true its.Drop bytes = refl
-mark_clear false its.Drop bytes = refl
-mark_clear true its.Add bytes = refl
-mark_clear false its.Add bytes = refl
-
 loud_clear : (line : List ℕ) → is_backslash line ≡ true → has_dashes line ≡ false
 unfolding after
 loud_clear line e = let w = (backslash-words line).0 e in rw w.1 refl
 
 line_clear : (own : List (List ℕ)) (m : Marked) → SpellsLine own m [] → AreClear own
 line_clear [] m s = absurd s
-line_clear (line ∷ []) m s = (rw s.1 (mark_clear s.0 m.mark m.line), tt)
-line_clear (line ∷ mark ∷ []) m s = (rw s.3.1 (mark_clear s.3.0 s.2.mark s.2.line), (loud_clear mark s.0, tt))
+line_clear (line ∷ []) m s = ((shows-marks line m s).dashes, tt)
+line_clear (line ∷ mark ∷ []) m s = ((shows-marks line s.2 s.3).dashes, (loud_clear mark s.0, tt))
 line_clear (line ∷ mark ∷ other ∷ more) m s = absurd s
 
 own_clear : (side : Side) (left : ℕ) (p : Ahead) (x : Shown × Ahead) (t : TakesLine side left p x) → Clear side t.own
@@ -73,17 +65,20 @@ own_clear Reversed left p x t = tt
 abbrev pub InPart : Side → BadKind → List (List ℕ) → List ℕ → List (List ℕ) → Type 0
 InPart side kind part line behind = (kind ≡ kinds.Count) ⊎ (((kind ≡ kinds.MisplacedBackslash) × (is_backslash line ≡ true)) ⊎ ((kind ≡ kinds.Mark) × HasNoMark side line × Clear side part))
 
-unmarked_breaks : (side : Side) (line : List ℕ) (b : Bool) → mark_at side line ≡ None → is_backslash line ≡ b → InPart side (cond b kinds.MisplacedBackslash kinds.Mark) [] line []
+unmarked_breaks : (side : Side) (line : List ℕ) (b : Bool) → shown_at side line ≡ None → is_backslash line ≡ b → InPart side (cond b kinds.MisplacedBackslash kinds.Mark) [] line []
 unmarked_breaks side line true none is = inr (inl (refl, is))
-unmarked_breaks side line false none is = inr (inr (refl, (no_mark, is), none_clear side))
+unmarked_breaks side line false none is = inr (inr (refl, (no_mark, not_empty, is), none_clear side))
   where
-    no_mark : (changed : Bool) (mark : Mark) (bytes : List ℕ) → is_on_side side mark ≡ true → line ≢ mark_byte changed mark ∷ 32 ∷ bytes
-    no_mark changed mark bytes on = λ same. let some = ap (mark_at side) same ∙ mark-again side changed mark bytes on in absurd cc
+    no_mark : (changed : Bool) (mark : Mark) (bytes : List ℕ) → is_on_side side mark ≡ true → line ≢ mark_byte changed mark ∷ bytes
+    no_mark changed mark bytes on = λ same. let some = ap (shown_at side) same ∙ byte-again side changed mark bytes on in absurd cc
+
+    not_empty : IsEmptyLine line → ⊥
+    not_empty h = let some = empty-again side line h in absurd cc
 
 marked_breaks : (number : ℕ) (side : Side) (line : List ℕ) (e : Fault) → marked_at number side line ≡ Err e → (e.line ≡ number) × InPart side e.kind [] line []
-marked_breaks number side line e h = by (mark_at side line) refl h
+marked_breaks number side line e h = by (shown_at side line) refl h
   where
-    by : (o : Option (Mark × Bool)) → mark_at side line ≡ o → must_be_marked number line o ≡ Err e → (e.line ≡ number) × InPart side e.kind [] line []
+    by : (o : Option Shown) → shown_at side line ≡ o → must_be_marked number line o ≡ Err e → (e.line ≡ number) × InPart side e.kind [] line []
     by (Some m) is h = absurd cc
     by None is h =
         let same : fault number (unmarked line) ≡ e = err_is {A = Shown} _ e h in
@@ -153,7 +148,7 @@ body_breaks side (suc left) before p e h long =
         | inl bad ↦ line_breaks side (suc left) p.number p.rest e bad long
         | inr good ↦ (
             let x = good.0 in
-            let t = line_takes side (suc left) p.number p.rest x good.1 in
+            let t = line_takes side (suc left) p.number p.rest x on.0 good.1 in
             named-past (InPart side e.kind) (InPart side e.kind) t.own p.number x.1.number p.rest x.1.rest e.line t.parts t.number (λ part line behind same holds. past_line side e.kind t.own part line behind (own_clear side (suc left) p x t) holds) (body_breaks side left (with_line before x.0) x.1 e good.2 long))
       ]
     ]

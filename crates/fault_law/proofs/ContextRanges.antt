@@ -40,10 +40,9 @@ numbers_form side line r e =
         text = f.text;
         rest = c.0;
         parts = join_parts line (before_range side) a.0 f.text b.0.1 (behind_range side) c.0 (after-takes (before_range side) line a.0 a.1) f.parts (after-takes (behind_range side) b.0.1 c.0 c.1);
-        ends = c.2;
         spelled = f.spelled;
       };
-      read = sym c.3 ∙ f.read;
+      read = sym c.2 ∙ f.read;
     }
 
 numbers_read : (side : Side) (line : List ℕ) (single : Bool) (first last : ℕ) → HasNumbers side line single first last → numbers_at side line ≡ Some (read_as single first last)
@@ -54,7 +53,6 @@ numbers_read side line single first last h =
       after-again (before_range side) (h.text ++ (behind_range side ++ h.rest)),
       range_read h.text single first last (behind_range side ++ h.rest) h.spelled (stops-behind side h.rest),
       after-again (behind_range side) h.rest,
-      h.ends,
     ) refl
 
 -- ---- the tests
@@ -89,14 +87,14 @@ bad side line false first last h e =
 large : (side : Side) (line : List ℕ) (single : Bool) (first last : ℕ) → HasNumbers side line single first last → is_bad_range (read_as single first last) ≡ false → is_too_large (read_as single first last) ≡ true → IsTooLarge side line
 large side line true first last h good e =
     let above = ltb-true 4294967295 (min first (2 ^ 32)) e in
-    (true, first, 0, record { text = h.text; rest = h.rest; parts = h.parts; ends = h.ends; numbers = (h.spelled.1, omega arith, λ none. refl) }, omega arith)
+    (true, first, 0, record { text = h.text; rest = h.rest; parts = h.parts; numbers = (h.spelled.1, omega arith, λ none. refl) }, omega arith)
 large side line false first last h good e =
     let above = ltb-true 4294967295 (min first (2 ^ 32) + ((min last (2 ^ 32) - min first (2 ^ 32)) + 1)) e in
     let both = or_parts (ltb last first) (eqb (min first (2 ^ 32)) 0) good in
     let order = ltb-false last first both.0 in
     let later = eqb-false (min first (2 ^ 32)) 0 both.1 in
     let s = h.spelled in
-    (false, first, last + 1 - first, record { text = h.text; rest = h.rest; parts = h.parts; ends = h.ends; numbers = (s.0, s.1, last, s.4, s.2, s.3, omega arith, omega arith, omega arith) }, omega arith)
+    (false, first, last + 1 - first, record { text = h.text; rest = h.rest; parts = h.parts; numbers = (s.0, s.1, last, s.4, s.2, s.3, omega arith, omega arith, omega arith) }, omega arith)
 
 below : (side : Side) (line : List ℕ) (least : ℕ) (single : Bool) (first last : ℕ) → HasNumbers side line single first last → is_too_large (read_as single first last) ≡ false → ltb (read_as single first last).first least ≡ true → StartsBelow side least line
 below side line least true first last h fits e =

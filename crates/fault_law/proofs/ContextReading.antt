@@ -19,7 +19,7 @@ use Rattle.context_form.specs.Openings.{begins_hunk}
 use Rattle.context_form.specs.Ranges.{range_line, most, is_count}
 use Rattle.context_form.specs.Parts.{no_body, body_at}
 use Rattle.context_form.specs.Merging.{joined, size_beside}
-use Rattle.context_form.specs.Presence.{is_there, begins_old_part}
+use Rattle.context_form.specs.Presence.{is_new, begins_old_part}
 use Rattle.context_form.specs.Hunks.{PlainPart, at_line, first_range, range_here, fitting, old_part, too_few, enough, new_count, new_part, sized, agreed, whole, parts_at, hunk_at, hunks_at, reading}
 use Rattle.context_form.specs.Grammar.{SpellsHunk}
 use Rattle.context_form.specs.FirstFault.{behind_first}
@@ -135,20 +135,20 @@ old_number least p x h =
 new_named : (least : ℕ) (old : PlainPart) (p : Ahead) (e : Fault) → new_part old p ≡ Err e → e.kind ≢ kinds.ShortEnd → NamesLine (InNew least e.kind) p.number p.rest e.line
 unfolding new_part
 new_named least old p e h long =
-    elim (bind_err (range_here Reversed 0 p) (λ s. fitting p.number s.0 (is_there s.0 old.body.lines s.1.rest) >>= λ fits. enough p.number old >>= λ few. body_at Reversed (new_count s.0 old.body.lines s.1.rest) no_body s.1 >>= λ b. Ok (record { number = p.number; stated = s.0; body = b.0 }, b.1)) e h) [
+    elim (bind_err (range_here Reversed 0 p) (λ s. fitting p.number s.0 (is_new s.0 old.body s.1.rest) >>= λ fits. enough p.number old >>= λ few. body_at Reversed (new_count s.0 old.body s.1.rest) no_body s.1 >>= λ b. Ok (record { number = p.number; stated = s.0; body = b.0 }, b.1)) e h) [
       | inl bad ↦ named-past (AtRange Reversed 0 e.kind) (InNew least e.kind) [] p.number p.number p.rest p.rest e.line refl (omega arith) (λ part line behind same holds. subst (λ (ls : List (List ℕ)). InNew least e.kind ls line behind) (sym holds.0) (new_range least e.kind line holds.1)) (range_named Reversed 0 p.number p.rest e bad long)
       | inr range ↦ (
           let s = range.0 in
           let r = range-takes Reversed 0 p.number p.rest s range.1 in
           let here = λ (line_is : e.line ≡ p.number) (holds : InNew least e.kind [] r.line s.1.rest). subst (λ (ls : List (List ℕ)). NamesLine (InNew least e.kind) p.number ls e.line) (sym r.parts) (named-here (InNew least e.kind) p.number r.line s.1.rest e.line line_is holds) in
-          elim (bind_err (fitting p.number s.0 (is_there s.0 old.body.lines s.1.rest)) (λ fits. enough p.number old >>= λ few. body_at Reversed (new_count s.0 old.body.lines s.1.rest) no_body s.1 >>= λ b. Ok (record { number = p.number; stated = s.0; body = b.0 }, b.1)) e range.2) [
-            | inl bad ↦ (let f = fitting_large Reversed 0 p.number r.line s.0 (is_there s.0 old.body.lines s.1.rest) e r.read bad in here f.0 (new_range least e.kind r.line f.1))
-            | inr fits ↦ elim (bind_err (enough p.number old) (λ few. body_at Reversed (new_count s.0 old.body.lines s.1.rest) no_body s.1 >>= λ b. Ok (record { number = p.number; stated = s.0; body = b.0 }, b.1)) e fits.2) [
+          elim (bind_err (fitting p.number s.0 (is_new s.0 old.body s.1.rest)) (λ fits. enough p.number old >>= λ few. body_at Reversed (new_count s.0 old.body s.1.rest) no_body s.1 >>= λ b. Ok (record { number = p.number; stated = s.0; body = b.0 }, b.1)) e range.2) [
+            | inl bad ↦ (let f = fitting_large Reversed 0 p.number r.line s.0 (is_new s.0 old.body s.1.rest) e r.read bad in here f.0 (new_range least e.kind r.line f.1))
+            | inr fits ↦ elim (bind_err (enough p.number old) (λ few. body_at Reversed (new_count s.0 old.body s.1.rest) no_body s.1 >>= λ b. Ok (record { number = p.number; stated = s.0; body = b.0 }, b.1)) e fits.2) [
               | inl bad ↦ (let f = few_breaks p.number old e bad in here (sym (ap (λ (x : Fault). x.line) f)) (λ stars line old_lines. subst (λ (x : Fault). Breaks least x.kind (stars ∷ line ∷ (old_lines ++ [])) r.line) f tt))
-              | inr few ↦ elim (bind_err (body_at Reversed (new_count s.0 old.body.lines s.1.rest) no_body s.1) (λ b. Ok (record { number = p.number; stated = s.0; body = b.0 }, b.1)) e few.2) [
+              | inr few ↦ elim (bind_err (body_at Reversed (new_count s.0 old.body s.1.rest) no_body s.1) (λ b. Ok (record { number = p.number; stated = s.0; body = b.0 }, b.1)) e few.2) [
                 | inl bad ↦ (
                     let dashes = dashes-again r.line (is_one s.0) s.0.start (most s.0) ((line-known Reversed 0 r.line s.0 r.read).spelled (most s.0) (most-counts s.0)) in
-                    named-past (InPart Reversed e.kind) (InNew least e.kind) (r.line ∷ []) p.number s.1.number p.rest s.1.rest e.line r.parts r.number_is (λ part line behind same holds. new_body least e.kind r.line part line behind dashes holds) (body_breaks Reversed (new_count s.0 old.body.lines s.1.rest) no_body s.1 e bad long))
+                    named-past (InPart Reversed e.kind) (InNew least e.kind) (r.line ∷ []) p.number s.1.number p.rest s.1.rest e.line r.parts r.number_is (λ part line behind same holds. new_body least e.kind r.line part line behind dashes holds) (body_breaks Reversed (new_count s.0 old.body s.1.rest) no_body s.1 e bad long))
                 | inr good ↦ absurd (let wrong : Ok (record { number = p.number; stated = s.0; body = good.0.0 }, good.0.1) ≡ failed {A = PlainPart × Ahead} e = good.2 in cc)
               ]
             ]
@@ -165,10 +165,10 @@ new_named least old p e h long =
 new_number : (old : PlainPart) (p : Ahead) (x : PlainPart × Ahead) → new_part old p ≡ Ok x → x.0.number ≡ p.number
 unfolding new_part
 new_number old p x h =
-    let a = bind_ok (range_here Reversed 0 p) (λ s. fitting p.number s.0 (is_there s.0 old.body.lines s.1.rest) >>= λ fits. enough p.number old >>= λ few. body_at Reversed (new_count s.0 old.body.lines s.1.rest) no_body s.1 >>= λ b. Ok (record { number = p.number; stated = s.0; body = b.0 }, b.1)) x h in
-    let f = bind_ok (fitting p.number a.0.0 (is_there a.0.0 old.body.lines a.0.1.rest)) (λ fits. enough p.number old >>= λ few. body_at Reversed (new_count a.0.0 old.body.lines a.0.1.rest) no_body a.0.1 >>= λ b. Ok (record { number = p.number; stated = a.0.0; body = b.0 }, b.1)) x a.2 in
-    let e = bind_ok (enough p.number old) (λ few. body_at Reversed (new_count a.0.0 old.body.lines a.0.1.rest) no_body a.0.1 >>= λ b. Ok (record { number = p.number; stated = a.0.0; body = b.0 }, b.1)) x f.2 in
-    let b = bind_ok (body_at Reversed (new_count a.0.0 old.body.lines a.0.1.rest) no_body a.0.1) (λ b. Ok (record { number = p.number; stated = a.0.0; body = b.0 }, b.1)) x e.2 in
+    let a = bind_ok (range_here Reversed 0 p) (λ s. fitting p.number s.0 (is_new s.0 old.body s.1.rest) >>= λ fits. enough p.number old >>= λ few. body_at Reversed (new_count s.0 old.body s.1.rest) no_body s.1 >>= λ b. Ok (record { number = p.number; stated = s.0; body = b.0 }, b.1)) x h in
+    let f = bind_ok (fitting p.number a.0.0 (is_new a.0.0 old.body a.0.1.rest)) (λ fits. enough p.number old >>= λ few. body_at Reversed (new_count a.0.0 old.body a.0.1.rest) no_body a.0.1 >>= λ b. Ok (record { number = p.number; stated = a.0.0; body = b.0 }, b.1)) x a.2 in
+    let e = bind_ok (enough p.number old) (λ few. body_at Reversed (new_count a.0.0 old.body a.0.1.rest) no_body a.0.1 >>= λ b. Ok (record { number = p.number; stated = a.0.0; body = b.0 }, b.1)) x f.2 in
+    let b = bind_ok (body_at Reversed (new_count a.0.0 old.body a.0.1.rest) no_body a.0.1) (λ b. Ok (record { number = p.number; stated = a.0.0; body = b.0 }, b.1)) x e.2 in
     sym (ap (λ (y : PlainPart × Ahead). y.0.number) (ok_is _ _ b.2))
 
 -- ---- both parts

@@ -10,17 +10,15 @@ use Rattle.hunk_core.specs.Sides.{is_on_side}
 use Rattle.hunk_core.specs.PlainHunk.{PlainHunk}
 use Rattle.hunk_core.specs.LineTests.{after, is_backslash}
 use Rattle.num_text.specs.NumberRanges as numbers
-use Rattle.hunk_core.specs.Letters.{is_line_end}
 use Rattle.context_form.specs.Ranges.{before_range, behind_range}
-use Rattle.context_form.specs.Grammar.{mark_byte, SpellsRange, SpellsHunks}
+use Rattle.context_form.specs.Grammar.{mark_byte, IsEmptyLine, SpellsRange, SpellsHunks}
 use Rattle.hunk_core.specs.Pieces.{last_start}
 
--- '*** ', one number or two, ' ****' for an old part; '--- ', numbers, ' ----' for a new one
+-- '*** ', one number or two, ' ****' for an old part; '--- ', numbers, ' ----' for a new one; and any rest
 pub record HasNumbers (side : Side) (line : List ℕ) (single : Bool) (first last : ℕ) : Type 0 where
   pub text : List ℕ
   pub rest : List ℕ
   pub parts : line ≡ before_range side ++ (text ++ (behind_range side ++ rest))
-  pub ends : is_line_end rest ≡ true
   pub spelled : numbers.SpellsRange text single first last
 
 -- the line isn't of this form, or has two numbers, the second below the first, or the first 0
@@ -35,9 +33,9 @@ IsTooLarge side line = (single : Bool) × (start : ℕ) × (count : ℕ) × Spel
 abbrev pub StartsBelow : Side → ℕ → List ℕ → Type 0
 StartsBelow side least line = (single : Bool) × (first : ℕ) × (last : ℕ) × HasNumbers side line single first last × (first < least)
 
--- two spaces and '! ' don't come first, nor '- ' in an old part, '+ ' in a new one; and it is no backslash line
+-- a space and '!' don't come first, nor '-' in an old part, '+' in a new one; and it is neither empty nor a backslash line
 abbrev pub HasNoMark : Side → List ℕ → Type 0
-HasNoMark side line = ((changed : Bool) (mark : Mark) (bytes : List ℕ) → is_on_side side mark ≡ true → line ≢ mark_byte changed mark ∷ 32 ∷ bytes) × (is_backslash line ≡ false)
+HasNoMark side line = ((changed : Bool) (mark : Mark) (bytes : List ℕ) → is_on_side side mark ≡ true → line ≢ mark_byte changed mark ∷ bytes) × (IsEmptyLine line → ⊥) × (is_backslash line ≡ false)
 
 -- '--- ' comes first
 abbrev pub has_dashes : List ℕ → Bool

@@ -28,7 +28,7 @@ CountsNoLines line = (r : Ranges) × SpellsRanges line r × (r.old_count ≡ 0) 
 abbrev pub StartsBelow : ℕ → List ℕ → Type 0
 StartsBelow least line = (r : Ranges) × SpellsRanges line r × (r.old_start < least)
 
--- a space, '-' and '+' don't come first, the line isn't empty, and it is no backslash line
+-- a space, a tab, '-' and '+' don't come first, the line isn't empty, and it is no backslash line
 abbrev pub HasNoMark : List ℕ → Type 0
 HasNoMark line = ((m : Marked) → Shows line m → ⊥) × (is_backslash line ≡ false)
 

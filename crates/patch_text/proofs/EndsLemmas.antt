@@ -78,17 +78,22 @@ unified-feed : (bytes : List ℕ) → is_opening (10 ∷ bytes) ≡ false
 unfolding is_opening after
 unified-feed bytes = refl
 
+unified-tab : (bytes : List ℕ) → is_opening (9 ∷ bytes) ≡ false
+unfolding is_opening after
+unified-tab bytes = refl
+
 unified-slash : (line : List ℕ) → is_backslash line ≡ true → is_opening line ≡ false
 unfolding is_opening after
 unified-slash line h = let at = after-first 92 (32 ∷ []) line h in rw at.1 refl
 
-unified-empty : (line : List ℕ) → unified.IsEmptyLine line → is_opening line ≡ false
-unified-empty [] h = absurd h
-unified-empty (b ∷ bytes) h = rw h (unified-feed bytes)
+unified-lost : (line : List ℕ) → unified.LostBlank line → is_opening line ≡ false
+unified-lost [] h = absurd h
+unified-lost (b ∷ bytes) (inl feed) = rw feed (unified-feed bytes)
+unified-lost (b ∷ bytes) (inr tab) = rw tab (unified-tab bytes)
 
 unified-shown : (line : List ℕ) (m : Marked) → unified.Shows line m → is_opening line ≡ false
 unified-shown line m (inl e) = rw e (unified-mark m.mark m.line)
-unified-shown line m (inr h) = unified-empty line h.0
+unified-shown line m (inr h) = unified-lost line h.0
 
 unified-line : (own : List (List ℕ)) (m : Marked) (body : List Marked) → unified.SpellsLine own m body → AreQuiet Unified own
 unified-line [] m body h = absurd h
@@ -127,8 +132,14 @@ context-before Reversed bytes = refl
 context-range : (side : Side) (line : List ℕ) (single : Bool) (start count : ℕ) → context.SpellsRange side line single start count → is_stars line ≡ false
 context-range side line single start count s = rw s.parts (context-before side (s.text ++ (behind_range side ++ s.rest)))
 
+context-empty : (line : List ℕ) → context.IsEmptyLine line → is_stars line ≡ false
+unfolding after
+context-empty [] h = absurd h
+context-empty (b ∷ bytes) h = rw h refl
+
 context-shown : (line : List ℕ) (m : Marked) → context.Shows line m → is_stars line ≡ false
-context-shown line m h = rw h.1 (context-mark h.0 m.mark (32 ∷ m.line))
+context-shown line m (inl h) = rw h.2 (context-mark h.0 m.mark h.1)
+context-shown line m (inr h) = context-empty line h.0
 
 context-line : (own : List (List ℕ)) (m : Marked) (others : List Marked) → context.SpellsLine own m others → AreQuiet Context own
 context-line [] m others h = absurd h

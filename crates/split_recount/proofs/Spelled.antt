@@ -10,7 +10,7 @@ use Rattle.hunk_core.specs.LineTests.{after, marked, is_backslash, unended}
 use Rattle.hunk_core.proofs.TextLemmas.{backslash-words}
 use Rattle.unified_form.specs.declared.body.Left.{Left}
 use Rattle.unified_form.specs.Bodies.{mark_at, is_last_line}
-use Rattle.unified_form.specs.Grammar.{mark_byte, IsEmptyLine, one_more, counts_of, Shows, SpellsLine, SpellsBody}
+use Rattle.unified_form.specs.Grammar.{mark_byte, LostBlank, one_more, counts_of, Shows, SpellsLine, SpellsBody}
 use Rattle.split_recount.specs.Bodies.{is_body_line, ends_body, body_of, marked_lines, mark_in, may_stand, misplaced}
 use Rattle.split_recount.specs.Measured.{with_mark}
 use Rattle.split_recount.proofs.Measuring.{sides_of, sides-more}
@@ -146,14 +146,15 @@ not-slash Keep bytes = refl
 not-slash Drop bytes = refl
 not-slash Add bytes = refl
 
-empty-shown : (line : List ℕ) → IsEmptyLine line → (mark_in line ≡ Some Keep) × (is_backslash line ≡ false)
+lost-shown : (line : List ℕ) → LostBlank line → (mark_in line ≡ Some Keep) × (is_backslash line ≡ false)
 unfolding after
-empty-shown [] e = absurd e
-empty-shown (b ∷ bytes) e = (rw e refl, rw e refl)
+lost-shown [] e = absurd e
+lost-shown (b ∷ bytes) (inl feed) = (rw feed refl, rw feed refl)
+lost-shown (b ∷ bytes) (inr tab) = (rw tab refl, rw tab refl)
 
 shows-mark : (line : List ℕ) (m : Marked) → Shows line m → (mark_in line ≡ Some m.mark) × (is_backslash line ≡ false)
 shows-mark line m (inl e) = (ap mark_in e ∙ mark-found m.mark m.line, ap is_backslash e ∙ not-slash m.mark m.line)
-shows-mark line m (inr h) = let found = empty-shown line h.0 in (found.0 ∙ ap (λ (x : Marked). Some x.mark) (sym h.1), found.1)
+shows-mark line m (inr h) = let found = lost-shown line h.0 in (found.0 ∙ ap (λ (x : Marked). Some x.mark) (sym h.1), found.1)
 
 none-marked : (line : List ℕ) → is_backslash line ≡ true → mark_in line ≡ None
 none-marked line slash = ap (option_map (λ x. x.mark)) (unmarked line slash)

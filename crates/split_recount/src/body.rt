@@ -89,6 +89,7 @@ fn mark_of(line: &[u8]) -> Option<Mark>
 {
     match line {
         [b' ' | b'\n', ..] => Some(Mark::Keep),
+        [b'\t', ..] => Some(Mark::Keep),
         [b'-', ..] => Some(Mark::Drop),
         [b'+', ..] => Some(Mark::Add),
         _ => None,

@@ -1,6 +1,6 @@
 -- A body that is read is spelled so, and what is spelled so is read.
-use Rattle.std.proofs.Common.{◌≡◌, ℕ, zero, suc, ◌+◌, ◌-◌, ◌≤◌, ◌<◌, true, false, eqb, List, [], ◌∷◌, ◌++◌, length, Option, None, Some, Ok, refl, sym, ap, subst, ◌∙◌, append_assoc, arith, inl, inr}
-use Rattle.std.proofs.lemmas.Bool.{eqb-true, eqb-false, or_parts}
+use Rattle.std.proofs.Common.{◌≡◌, ℕ, zero, suc, ◌+◌, ◌-◌, ◌≤◌, ◌<◌, true, false, eqb, ◌||◌, List, [], ◌∷◌, ◌++◌, length, Option, None, Some, Ok, refl, sym, ap, subst, ◌∙◌, append_assoc, arith, inl, inr}
+use Rattle.std.proofs.lemmas.Bool.{eqb-true, eqb-false, or_cases, or_parts}
 use Rattle.std.proofs.lemmas.List.{length-append}
 use Rattle.hunk_core.specs.declared.Mark.{Mark}
 use Rattle.hunk_core.specs.declared.Mark.TheVariants.{Keep, Drop, Add}
@@ -11,7 +11,7 @@ use Rattle.unified_form.specs.declared.body.Left.{Left}
 use Rattle.hunk_core.specs.LineTests.{after}
 use Rattle.unified_form.specs.Bodies.{mark_at, is_last_line, must_be_marked, marked_at, room_at, ended_by, first_line, line_at, body_at}
 use Rattle.hunk_core.specs.LineTests.{marked, is_backslash, after_backslash, unended}
-use Rattle.unified_form.specs.Grammar.{mark_byte, IsEmptyLine, Shows, one_more, counts_of, SpellsLine, SpellsBody}
+use Rattle.unified_form.specs.Grammar.{mark_byte, LostBlank, Shows, one_more, counts_of, SpellsLine, SpellsBody}
 use Rattle.unified_form.proofs.Loops.{body_empty}
 use Rattle.hunk_core.proofs.ReadSteps.{bind_ok, guard_ok, must_ok, ok_is}
 use Rattle.line_list.proofs.Choices.{chosen}
@@ -30,8 +30,8 @@ mark_at-shows (b ∷ bytes) m e =
         | inl drop ↦ inl (rw (← some_is _ _ (Some m) (sym drop.1) refl, eqb-true b 45 drop.0) refl)
         | inr e2 ↦ elim (chosen (eqb b 43) _ _ (Some m) e2.1) [
           | inl add ↦ inl (rw (← some_is _ _ (Some m) (sym add.1) refl, eqb-true b 43 add.0) refl)
-          | inr e3 ↦ elim (chosen (eqb b 10) _ _ (Some m) e3.1) [
-            | inl feed ↦ inr (eqb-true b 10 feed.0, some_is _ _ (Some m) refl (sym feed.1))
+          | inr e3 ↦ elim (chosen (eqb b 10 || eqb b 9) _ _ (Some m) e3.1) [
+            | inl lost ↦ inr (elim (or_cases (eqb b 10) (eqb b 9) lost.0) [ inl feed ↦ inl (eqb-true b 10 feed) | inr tab ↦ inr (eqb-true b 9 tab) ], some_is _ _ (Some m) refl (sym lost.1))
             | inr other ↦ absurd cc
           ]
         ]
@@ -43,13 +43,14 @@ by_mark Keep line = refl
 by_mark Drop line = refl
 by_mark Add line = refl
 
-empty_mark : (line : List ℕ) → IsEmptyLine line → mark_at line ≡ Some (marked Keep line)
-empty_mark [] h = absurd h
-empty_mark (b ∷ bytes) h = rw h refl
+lost_mark : (line : List ℕ) → LostBlank line → mark_at line ≡ Some (marked Keep line)
+lost_mark [] h = absurd h
+lost_mark (b ∷ bytes) (inl feed) = rw feed refl
+lost_mark (b ∷ bytes) (inr tab) = rw tab refl
 
 pub shows-mark_at : (line : List ℕ) (m : Marked) → Shows line m → mark_at line ≡ Some m
 shows-mark_at line m (inl e) = rw e (by_mark m.mark m.line)
-shows-mark_at line m (inr h) = rw h.1 (empty_mark line h.0)
+shows-mark_at line m (inr h) = rw h.1 (lost_mark line h.0)
 
 no_backslash_byte : (mark : Mark) (line : List ℕ) → is_backslash (mark_byte mark ∷ line) ≡ false
 unfolding after
@@ -57,14 +58,15 @@ no_backslash_byte Keep line = refl
 no_backslash_byte Drop line = refl
 no_backslash_byte Add line = refl
 
-empty_no_backslash : (line : List ℕ) → IsEmptyLine line → is_backslash line ≡ false
+lost_no_backslash : (line : List ℕ) → LostBlank line → is_backslash line ≡ false
 unfolding after
-empty_no_backslash [] h = absurd h
-empty_no_backslash (b ∷ bytes) h = rw h refl
+lost_no_backslash [] h = absurd h
+lost_no_backslash (b ∷ bytes) (inl feed) = rw feed refl
+lost_no_backslash (b ∷ bytes) (inr tab) = rw tab refl
 
 pub shows-no_backslash : (line : List ℕ) (m : Marked) → Shows line m → is_backslash line ≡ false
 shows-no_backslash line m (inl e) = rw e (no_backslash_byte m.mark m.line)
-shows-no_backslash line m (inr h) = empty_no_backslash line h.0
+shows-no_backslash line m (inr h) = lost_no_backslash line h.0
 
 pub marked-ok : (number : ℕ) (line : List ℕ) (o : Option Marked) (m : Marked) → must_be_marked number line o ≡ Ok m → o ≡ Some m
 marked-ok number line None m e = absurd cc

@@ -8,13 +8,13 @@ use Rattle.hunk_core.specs.LineTests.{marked, unended, is_backslash, after_backs
 use Rattle.hunk_core.specs.Reading.{Fault, fault, ◌>>=◌, Ahead, ahead}
 use Rattle.unified_form.specs.declared.body.Left.{Left}
 
--- a mark, and what stands behind it; an empty line is an empty line that is kept
+-- a mark, and what stands behind it; a line that is empty or begins with a tab is kept, and has lost the blank in front of it
 abbrev pub mark_at : List ℕ → Option Marked
 mark_at [] = None
 mark_at (b ∷ bytes) = if b == 32 then Some (marked Keep bytes)
     else if b == 45 then Some (marked Drop bytes)
     else if b == 43 then Some (marked Add bytes)
-    else if b == 10 then Some (marked Keep (b ∷ bytes))
+    else if b == 10 || b == 9 then Some (marked Keep (b ∷ bytes))
     else None
 
 -- a line of a body has a mark

@@ -18,14 +18,14 @@ mark_byte Keep = 32
 mark_byte Drop = 45
 mark_byte Add = 43
 
--- nothing but its line feed
-abbrev pub IsEmptyLine : List ℕ → Type 0
-IsEmptyLine [] = ⊥
-IsEmptyLine (b ∷ bytes) = b ≡ 10
+-- nothing but its line feed, or a tab at the front: a line of context that lost its blank
+abbrev pub LostBlank : List ℕ → Type 0
+LostBlank [] = ⊥
+LostBlank (b ∷ bytes) = (b ≡ 10) ⊎ (b ≡ 9)
 
--- a line shows a marked line: behind its mark, or an empty line that is kept
+-- a line shows a marked line: behind its mark, or as a whole, where it lost the blank of a kept line
 abbrev pub Shows : List ℕ → Marked → Type 0
-Shows line m = (line ≡ mark_byte m.mark ∷ m.line) ⊎ (IsEmptyLine line × (m ≡ marked Keep line))
+Shows line m = (line ≡ mark_byte m.mark ∷ m.line) ⊎ (LostBlank line × (m ≡ marked Keep line))
 
 -- how many lines of a body are on each side
 abbrev pub one_more : Mark → Left → Left

@@ -36,6 +36,10 @@ fn mark_of(text: &[u8], at: usize, end: usize) -> Option<HunkLine>
         start: at as u32 + 1,
         end: end as u32,
     };
+    let whole = Span {
+        start: at as u32,
+        end: end as u32,
+    };
     match text[at] {
         b' ' => Some(HunkLine {
             mark: Mark::Keep,
@@ -49,12 +53,14 @@ fn mark_of(text: &[u8], at: usize, end: usize) -> Option<HunkLine>
             mark: Mark::Add,
             span,
         }),
+        // Editors and mailers take the blank off such lines.
         b'\n' => Some(HunkLine {
             mark: Mark::Keep,
-            span: Span {
-                start: at as u32,
-                end: end as u32,
-            },
+            span: whole,
+        }),
+        b'\t' => Some(HunkLine {
+            mark: Mark::Keep,
+            span: whole,
         }),
         _ => None,
     }

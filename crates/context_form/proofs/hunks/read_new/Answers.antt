@@ -6,7 +6,6 @@ use Rattle.hunk_core.specs.PlainHunk.{body_of}
 use Rattle.hunk_core.specs.Reading.{ahead_of}
 use Rattle.context_form.specs.Parts.{plain_of}
 use Rattle.context_form.specs.Hunks.{part_over}
-use Rattle.context_form.specs.Presence.{is_there}
 use Rattle.context_form.proofs.StepLemmas.{new-fits-fails, new-few-fails, new-body-fails, new-read}
 use Rattle.context_form.proofs.hunks.read_new.Goals as goal
 
@@ -83,19 +82,19 @@ pub returns-clause-fits : goal.returns-clause-fits
 returns-clause-fits c = c.in_ok-stated.ensures.fits
 
 pub returns-clause-exact : goal.returns-clause-exact
-returns-clause-exact c = new-read (part_over c.args.text.now c.args.old.now) (ahead_of c.args.text.now c.args.place) (c.in_ok-stated.stated, ahead_of c.args.text.now c.in_ok-stated.place) (plain_of c.args.text.now c.in_ok-body.body, ahead_of c.args.text.now c.in_ok-body.place) c.has_new-is_there.result c.lines_of-most.result c.in_ok-stated.ensures.exact (c.has_new-is_there.ensures ∙ ap (λ xs. is_there c.in_ok-stated.stated (body_of c.args.text.now xs) (lines (drop c.in_ok-stated.place.at c.args.text.now))) c.deref.ensures.value) c.in_ok-fits_part.ensures (c.in_ok-has_enough.ensures c.args.text.now) c.lines_of-most.ensures c.in_ok-body.ensures.exact
+returns-clause-exact c = new-read (part_over c.args.text.now c.args.old.now) (ahead_of c.args.text.now c.args.place) (c.in_ok-stated.stated, ahead_of c.args.text.now c.in_ok-stated.place) (plain_of c.args.text.now c.in_ok-body.body, ahead_of c.args.text.now c.in_ok-body.place) c.has_new-is_there.result c.lines_of-most.result c.in_ok-stated.ensures.exact c.has_new-is_there.ensures c.in_ok-fits_part.ensures (c.in_ok-has_enough.ensures c.args.text.now) c.lines_of-most.ensures c.in_ok-body.ensures.exact
 
 pub returns-in_err-body-clause-exact : goal.returns-in_err-body-clause-exact
 returns-in_err-body-clause-exact c =
     let p = err_from_is_err_and c.from_residual-in_err-body.result c.from_residual-in_err-body.ensures.1 in
-    rw (p.1, p.2) (new-body-fails c.in_err-body.field-0.0 (part_over c.args.text.now c.args.old.now) (ahead_of c.args.text.now c.args.place) (c.in_ok-stated.stated, ahead_of c.args.text.now c.in_ok-stated.place) c.has_new-is_there.result c.lines_of-most.result c.in_ok-stated.ensures.exact (c.has_new-is_there.ensures ∙ ap (λ xs. is_there c.in_ok-stated.stated (body_of c.args.text.now xs) (lines (drop c.in_ok-stated.place.at c.args.text.now))) c.deref.ensures.value) c.in_ok-fits_part.ensures (c.in_ok-has_enough.ensures c.args.text.now) c.lines_of-most.ensures c.in_err-body.ensures.exact)
+    rw (p.1, p.2) (new-body-fails c.in_err-body.field-0.0 (part_over c.args.text.now c.args.old.now) (ahead_of c.args.text.now c.args.place) (c.in_ok-stated.stated, ahead_of c.args.text.now c.in_ok-stated.place) c.has_new-is_there.result c.lines_of-most.result c.in_ok-stated.ensures.exact c.has_new-is_there.ensures c.in_ok-fits_part.ensures (c.in_ok-has_enough.ensures c.args.text.now) c.lines_of-most.ensures c.in_err-body.ensures.exact)
 
 pub returns-in_err-fits_part-clause-exact : goal.returns-in_err-fits_part-clause-exact
 returns-in_err-fits_part-clause-exact c =
     let p = err_from_is_err_and c.from_residual-in_err-fits_part.result c.from_residual-in_err-fits_part.ensures.1 in
-    rw (p.1, p.2) (new-fits-fails c.in_err-fits_part.field-0.0 (part_over c.args.text.now c.args.old.now) (ahead_of c.args.text.now c.args.place) (c.in_ok-stated.stated, ahead_of c.args.text.now c.in_ok-stated.place) c.has_new-is_there.result c.in_ok-stated.ensures.exact (c.has_new-is_there.ensures ∙ ap (λ xs. is_there c.in_ok-stated.stated (body_of c.args.text.now xs) (lines (drop c.in_ok-stated.place.at c.args.text.now))) c.deref.ensures.value) c.in_err-fits_part.ensures)
+    rw (p.1, p.2) (new-fits-fails c.in_err-fits_part.field-0.0 (part_over c.args.text.now c.args.old.now) (ahead_of c.args.text.now c.args.place) (c.in_ok-stated.stated, ahead_of c.args.text.now c.in_ok-stated.place) c.has_new-is_there.result c.in_ok-stated.ensures.exact c.has_new-is_there.ensures c.in_err-fits_part.ensures)
 
 pub returns-in_err-has_enough-clause-exact : goal.returns-in_err-has_enough-clause-exact
 returns-in_err-has_enough-clause-exact c =
     let p = err_from_is_err_and c.from_residual-in_err-has_enough.result c.from_residual-in_err-has_enough.ensures.1 in
-    rw (p.1, p.2) (new-few-fails c.in_err-has_enough.field-0.0 (part_over c.args.text.now c.args.old.now) (ahead_of c.args.text.now c.args.place) (c.in_ok-stated.stated, ahead_of c.args.text.now c.in_ok-stated.place) c.has_new-is_there.result c.in_ok-stated.ensures.exact (c.has_new-is_there.ensures ∙ ap (λ xs. is_there c.in_ok-stated.stated (body_of c.args.text.now xs) (lines (drop c.in_ok-stated.place.at c.args.text.now))) c.deref.ensures.value) c.in_ok-fits_part.ensures (c.in_err-has_enough.ensures c.args.text.now))
+    rw (p.1, p.2) (new-few-fails c.in_err-has_enough.field-0.0 (part_over c.args.text.now c.args.old.now) (ahead_of c.args.text.now c.args.place) (c.in_ok-stated.stated, ahead_of c.args.text.now c.in_ok-stated.place) c.has_new-is_there.result c.in_ok-stated.ensures.exact c.has_new-is_there.ensures c.in_ok-fits_part.ensures (c.in_err-has_enough.ensures c.args.text.now))
