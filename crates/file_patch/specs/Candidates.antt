@@ -2,23 +2,31 @@
 use Rattle.std.specs.Prelude.{ℕ, Bool, List, ◌++◌, codes, ◌&&◌, ◌||◌, if◌then◌else◌, bytes_eq, Option, None, Some, is_none, option_and_then}
 use Rattle.std.specs.Option.{option_to_list}
 use Rattle.outside.specs.Names.{broken_rule, normal_form}
+use Rattle.header_record.specs.Quoted.{name_of}
 use Rattle.file_patch.specs.Stripped.{stripped}
 
 -- the name with this text, where the text breaks no rule of names
 abbrev pub lawful_name : List ℕ → Option (List ℕ)
 lawful_name text = if is_none (broken_rule text) then Some (normal_form text) else None
 
--- what is left of a text once it is stripped, where that is a name
+-- what is left of a name once it is stripped, where that is one
+abbrev pub left_name : Option ℕ → List ℕ → Option (List ℕ)
+left_name strip name = option_and_then lawful_name (stripped strip name)
+
+-- the same of the name that a text in a header stands for
 abbrev pub candidate : Option ℕ → List ℕ → Option (List ℕ)
-candidate strip text = option_and_then lawful_name (stripped strip text)
+candidate strip text = option_and_then (left_name strip) (name_of text)
 
 -- the candidate of the index line, if there is one
 abbrev pub index_names : Option ℕ → Option (List ℕ) → List (List ℕ)
 index_names strip text = option_to_list (option_and_then (candidate strip) text)
 
--- the same of a header line; `/dev/null`, as it is written, stands for a file that isn't there
+-- the same of a header line; `/dev/null` stands for a file that isn't there
+abbrev pub left_if_file : Option ℕ → List ℕ → Option (List ℕ)
+left_if_file strip name = if bytes_eq name (codes "/dev/null") then None else left_name strip name
+
 abbrev pub header_candidate : Option ℕ → List ℕ → Option (List ℕ)
-header_candidate strip text = if bytes_eq text (codes "/dev/null") then None else candidate strip text
+header_candidate strip text = option_and_then (left_if_file strip) (name_of text)
 
 abbrev pub header_names : Option ℕ → Option (List ℕ) → List (List ℕ)
 header_names strip text = option_to_list (option_and_then (header_candidate strip) text)

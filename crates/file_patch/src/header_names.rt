@@ -1,9 +1,10 @@
 //! The names that a file patch can be meant for.
 ghost use Rattle.std.specs.Prelude.{◌≡◌, ◌++◌, IfOk, OnOk, codes, bytes_eq, option_and_then};
 ghost use Rattle.std.specs.Option.{option_copied, option_to_list};
-ghost use Rattle.file_patch.specs.Candidates.{lawful_name, candidate, header_candidate, index_beside, index_names, header_names, candidates};
+ghost use Rattle.file_patch.specs.Candidates.{lawful_name, left_name, left_if_file, candidate, header_candidate, index_beside, index_names, header_names, candidates};
 
 use crate::strip::stripped;
+use header_record::{begins_quoted, unquoted};
 use outside::{Name, NameFault};
 use std::alloc::{AllocError, Global};
 
@@ -89,17 +90,43 @@ fn header_candidate(
 ) -> Result<Option<Name>, AllocError>
     ensures { IfOk result (λ found. found ≡ header_candidate strip text.now) }
 {
-    if text == b"/dev/null".as_slice() {
-        return Ok(None);
+    if !begins_quoted(text) {
+        return left_if_file(alloc, strip, text);
     }
-    candidate(alloc, strip, text)
+    match unquoted(alloc, text)? {
+        Some(name) => left_if_file(alloc, strip, name.as_slice()),
+        None => Ok(None),
+    }
 }
 
-/// The name that is left of a text once it is stripped, where that is one.
+/// The name that is left of what a text in a header stands for once that is stripped, where that is one.
 pub fn candidate(alloc: Global, strip: Option<u32>, text: &[u8]) -> Result<Option<Name>, AllocError>
     ensures { IfOk result (λ found. found ≡ candidate strip text.now) }
 {
-    match stripped(strip, text) {
+    if !begins_quoted(text) {
+        return left_name(alloc, strip, text);
+    }
+    match unquoted(alloc, text)? {
+        Some(name) => left_name(alloc, strip, name.as_slice()),
+        None => Ok(None),
+    }
+}
+
+/// The name that is left of a header line's name, unless that is `/dev/null`.
+fn left_if_file(alloc: Global, strip: Option<u32>, name: &[u8]) -> Result<Option<Name>, AllocError>
+    ensures { IfOk result (λ found. found ≡ left_if_file strip name.now) }
+{
+    if name == b"/dev/null".as_slice() {
+        return Ok(None);
+    }
+    left_name(alloc, strip, name)
+}
+
+/// What is left of a name once it is stripped, where that is one.
+fn left_name(alloc: Global, strip: Option<u32>, name: &[u8]) -> Result<Option<Name>, AllocError>
+    ensures { IfOk result (λ found. found ≡ left_name strip name.now) }
+{
+    match stripped(strip, name) {
         Some(left) => lawful_name(alloc, left),
         None => Ok(None),
     }

@@ -1,6 +1,9 @@
 //! Laws of stripping, of names below a directory, and of numbering.
-ghost use Rattle.std.specs.Prelude.{◌≡◌, ◌↔◌, ◌<◌, ◌++◌, ◌∷◌, [], ℕ, List, Some, length, true, false};
+ghost use Rattle.std.specs.Prelude.{◌≡◌, ◌↔◌, ◌<◌, ◌++◌, ◌∷◌, [], ℕ, List, Option, Some, length, true, false};
 ghost use Rattle.file_patch.specs.Stripped.{behind_slashes, IsStripped};
+ghost use Rattle.std.specs.List.{AllByRecursion};
+ghost use Rattle.header_record.specs.Quoted.{IsNameByte, begins_quoted, quoted};
+ghost use Rattle.file_patch.specs.Candidates.{candidate, header_candidate, left_name};
 ghost use Rattle.patch_options.specs.PlainJob.{PlainOptions};
 ghost use Rattle.outside.specs.Names.{is_absolute};
 ghost use Rattle.file_patch.specs.Targets.{below};
@@ -9,6 +12,12 @@ ghost use Rattle.file_patch.specs.Numbered.{number_in, is_among, with_name, join
 /// What stands behind so many slashes is what is left of a text whose front holds them all and ends with the last.
 pub fn stripped_fronts_hold_the_slashes()
     ensures { (n : ℕ) (text left : List ℕ) → (behind_slashes n text ≡ Some left) ↔ IsStripped n text left }
+{}
+
+/// A name in quotes, as git writes it, is the name that it is without them, but for one that begins with a quote itself.
+pub fn quoted_names_are_the_same()
+    ensures header { (strip : Option ℕ) (name : List ℕ) → AllByRecursion IsNameByte name → begins_quoted name ≡ false → header_candidate strip (quoted name) ≡ header_candidate strip name }
+    ensures other { (strip : Option ℕ) (name : List ℕ) → AllByRecursion IsNameByte name → candidate strip (quoted name) ≡ left_name strip name }
 {}
 
 /// Each name has a number below their count, equal numbers are those of equal names, a name keeps its number when

@@ -21,8 +21,8 @@ pub use header_names::candidates;
 use header_record::{Action, Header};
 use hunk_core::{Hunk, Side};
 pub use laws::{
-    numbers_come_in_order, numbers_tell_names_apart, stripped_fronts_hold_the_slashes,
-    targets_tell_names_apart,
+    numbers_come_in_order, numbers_tell_names_apart, quoted_names_are_the_same,
+    stripped_fronts_hold_the_slashes, targets_tell_names_apart,
 };
 use line_list::Span;
 pub use moved::moved_names;

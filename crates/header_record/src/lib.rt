@@ -1,8 +1,11 @@
 //! A header as a record: what the lines in front of the opening of a file patch say.
 #![tactic(auto)]
 
+mod quoted;
+
 use hunk_core::Form;
 use line_list::Span;
+pub use quoted::{begins_quoted, quoted_length, quotes_are_read_back, unquoted};
 use stamp::Stamp;
 
 /// What a git header says of a file.

@@ -52,8 +52,11 @@ bare-is text at end number rs rest s line e k =
 
 -- ---- the halves
 
-pub alike-none : (old new : List ℕ) → position (λ b. b == 47) old ≡ None → are_alike old new ≡ false
-alike-none old new e = rw e refl
+pub alike-none : (old new : List ℕ) → position (λ b. b == 47) old ≡ None → position (λ b. b == 47) new ≡ None → are_alike old new ≡ bytes_eq old new
+alike-none old new e f = rw (e, f) refl
+
+pub alike-other : (old new : List ℕ) (l : ℕ) → position (λ b. b == 47) old ≡ None → position (λ b. b == 47) new ≡ Some l → are_alike old new ≡ false
+alike-other old new l e f = rw (e, f) refl
 
 pub alike-one : (old new : List ℕ) (k : ℕ) → position (λ b. b == 47) old ≡ Some k → position (λ b. b == 47) new ≡ None → are_alike old new ≡ false
 alike-one old new k e f = rw (e, f) refl

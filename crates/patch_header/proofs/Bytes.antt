@@ -5,7 +5,7 @@ use Rattle.std.proofs.lemmas.List.Sums.{position_or_len_is}
 use Rattle.std.specs.Prelude.{unwrap_or, ◌==◌}
 use Rattle.bstr.specs.Bytes.{is_in, not_in}
 use Rattle.bstr.specs.Find.{IsFirstByte}
-use Rattle.patch_header.specs.Values.{is_blank, is_white, first, name_length}
+use Rattle.patch_header.specs.Values.{is_blank, is_white, first, bare_length}
 
 is_false : (v : Bool) → ¬ (v ≡ true) → v ≡ false
 is_false true h = absurd (h refl)
@@ -52,8 +52,8 @@ pub is_first : (test other : ℕ → Bool) (bytes : List ℕ) (r : Option ℕ) �
 is_first test other bytes r same h = ap (λ x. unwrap_or x (length bytes)) (same_position test other bytes r same h)
 
 -- where no first byte is found, or it is found here
-pub is_name_length : (bytes : List ℕ) (tab space : Option ℕ) → IsFirstByte (λ b. b == 9) bytes tab → IsFirstByte (λ b. b == 32) bytes space → unwrap_or tab (unwrap_or space (length bytes)) ≡ name_length bytes
-is_name_length bytes tab space h k = rw (← is_position (λ b. b == 9) bytes tab h, ← is_position (λ b. b == 32) bytes space k) refl
+pub is_bare_length : (bytes : List ℕ) (tab space : Option ℕ) → IsFirstByte (λ b. b == 9) bytes tab → IsFirstByte (λ b. b == 32) bytes space → unwrap_or tab (unwrap_or space (length bytes)) ≡ bare_length bytes
+is_bare_length bytes tab space h k = rw (← is_position (λ b. b == 9) bytes tab h, ← is_position (λ b. b == 32) bytes space k) refl
 
-pub is_tab_first : (bytes : List ℕ) (k : ℕ) → IsFirstByte (λ b. b == 9) bytes (Some k) → k ≡ name_length bytes
+pub is_tab_first : (bytes : List ℕ) (k : ℕ) → IsFirstByte (λ b. b == 9) bytes (Some k) → k ≡ bare_length bytes
 is_tab_first bytes k h = rw (← is_position (λ b. b == 9) bytes (Some k) h) refl

@@ -1,15 +1,16 @@
 -- The definitions in words.
-use Rattle.std.proofs.Common.{◌≡◌, ◌⊎◌, inl, inr, ◌↔◌, ℕ, ◌+◌, ◌-◌, Bool, true, false, cond, not, ◌&&◌, ◌||◌, eqb, ltb, List, [], ◌∷◌, ◌++◌, length, take, drop, Option, None, Some, refl, ap, ◌∙◌, arith, length-append}
+use Rattle.std.proofs.Common.{◌≡◌, ◌⊎◌, inl, inr, ◌↔◌, ℕ, ◌+◌, ◌-◌, Bool, true, false, cond, not, ◌&&◌, ◌||◌, eqb, ltb, List, [], ◌∷◌, ◌++◌, length, take, drop, Option, None, Some, refl, sym, ap, ◌∙◌, arith, length-append}
 use Rattle.std.specs.Prelude.{is_some, unwrap_or, codes, nat_eq, bytes_eq}
 use Rattle.std.specs.List.{list_any, position, position_or_len, ends_with}
 use Rattle.std.proofs.lemmas.Bool.Decides.{Decides-eqb}
 use Rattle.std.proofs.lemmas.Slice.Eq.{bytes_eq-Decides, ends_is}
 use Rattle.std.proofs.lemmas.List.{reverse-append, drop-append-le, take-append-le, take_all, drop_all}
+use Rattle.header_record.specs.Quoted.{begins_quoted, quoted_length}
 use Rattle.hunk_core.specs.LineTests.{after, ends_line}
 use Rattle.hunk_core.proofs.TextLemmas.{prefix-words, has_some, ends-behind}
 use Rattle.patch_header.specs.Content.{content, is_binary, is_dot}
 use Rattle.patch_header.specs.Region.{Row, tail_of, first_some, last_tail}
-use Rattle.patch_header.specs.Values.{is_blank, is_white, first, blanks, unblanked, name_length, word_length}
+use Rattle.patch_header.specs.Values.{is_blank, is_white, first, blanks, unblanked, bare_length, word_length, name_length, index_length}
 use Rattle.patch_header.proofs.Stands.{and_left, and_right, or_cases}
 
 -- ---- lines
@@ -146,15 +147,35 @@ blanks-words front rest b h k =
 pub all_blanks-words : (front : List ℕ) → list_any (λ x. not (is_blank x)) front ≡ false → unblanked front ≡ []
 all_blanks-words front h = ap (λ m. drop m front) (first-none (λ x. not (is_blank x)) front h) ∙ drop_all (length front) front (omega arith)
 
-pub tab-words : (name rest : List ℕ) → list_any (λ b. eqb b 9) name ≡ false → name_length (name ++ 9 ∷ rest) ≡ length name
+pub quoted-words : (bytes : List ℕ) (n : ℕ) → quoted_length bytes ≡ Some n → (name_length bytes ≡ n) × (index_length bytes ≡ n)
+quoted-words [] n e = absurd cc
+quoted-words (b ∷ bs) n e = by (eqb b 34) refl
+  where
+    by : (v : Bool) → eqb b 34 ≡ v → (name_length (b ∷ bs) ≡ n) × (index_length (b ∷ bs) ≡ n)
+    by true is = (
+      ap (λ v. cond v (unwrap_or (quoted_length (b ∷ bs)) 0) (bare_length (b ∷ bs))) is ∙ ap (λ o. unwrap_or o 0) e,
+      ap (λ v. cond v (unwrap_or (quoted_length (b ∷ bs)) 0) (first (λ c. eqb c 9) (b ∷ bs))) is ∙ ap (λ o. unwrap_or o 0) e,
+    )
+    by false is = let bad : None ≡ Some n = sym (rw is refl) ∙ e in absurd cc
+
+pub bare-words : (bytes : List ℕ) → begins_quoted bytes ≡ false → name_length bytes ≡ bare_length bytes
+bare-words bytes e = rw e refl
+
+pub index_tab-words : (name rest : List ℕ) → begins_quoted (name ++ 9 ∷ rest) ≡ false → list_any (λ b. eqb b 9) name ≡ false → index_length (name ++ 9 ∷ rest) ≡ length name
+index_tab-words name rest e h = rw e (first-at (λ b. eqb b 9) name 9 rest h refl)
+
+pub index-words : (name : List ℕ) → begins_quoted name ≡ false → list_any (λ b. eqb b 9) name ≡ false → index_length name ≡ length name
+index-words name e h = rw e (first-none (λ b. eqb b 9) name h)
+
+pub tab-words : (name rest : List ℕ) → list_any (λ b. eqb b 9) name ≡ false → bare_length (name ++ 9 ∷ rest) ≡ length name
 tab-words name rest h = ap (λ o. unwrap_or o (first (λ b. eqb b 32) (name ++ 9 ∷ rest))) (position-at (λ b. eqb b 9) name 9 rest h refl)
 
-pub space-words : (name rest : List ℕ) → list_any (λ b. eqb b 9) (name ++ 32 ∷ rest) ≡ false → list_any (λ b. eqb b 32) name ≡ false → name_length (name ++ 32 ∷ rest) ≡ length name
+pub space-words : (name rest : List ℕ) → list_any (λ b. eqb b 9) (name ++ 32 ∷ rest) ≡ false → list_any (λ b. eqb b 32) name ≡ false → bare_length (name ++ 32 ∷ rest) ≡ length name
 space-words name rest h k =
     ap (λ o. unwrap_or o (first (λ b. eqb b 32) (name ++ 32 ∷ rest))) (position-none (λ b. eqb b 9) (name ++ 32 ∷ rest) h)
     ∙ first-at (λ b. eqb b 32) name 32 rest k refl
 
-pub whole-words : (name : List ℕ) → list_any (λ b. eqb b 9) name ≡ false → list_any (λ b. eqb b 32) name ≡ false → name_length name ≡ length name
+pub whole-words : (name : List ℕ) → list_any (λ b. eqb b 9) name ≡ false → list_any (λ b. eqb b 32) name ≡ false → bare_length name ≡ length name
 whole-words name h k =
     ap (λ o. unwrap_or o (first (λ b. eqb b 32) name)) (position-none (λ b. eqb b 9) name h)
     ∙ first-none (λ b. eqb b 32) name k

@@ -5,6 +5,8 @@ use Rattle.std.proofs.lemmas.Bool.{eqb-false}
 use Rattle.line_list.specs.declared.Span.{Span}
 use Rattle.hunk_core.specs.LineTests.{ends_line}
 use Rattle.patch_header.specs.Region.{LiesIn}
+use Rattle.patch_header.specs.GitRows.{FitsIn}
+use Rattle.patch_header.specs.declared.bare.Pair.{Pair}
 use Rattle.patch_header.specs.Values.{span_at, bytes_of, IsPieceOf}
 use Rattle.patch_header.specs.declared.region.Tail.{Tail}
 
@@ -25,12 +27,12 @@ part-fits text t skipped len lies low high =
     let bytes = bytes_of text t in
     omega (arith, whole-fits text t lies, low, high, length-take (length bytes - skipped) (drop skipped bytes), length-drop skipped bytes)
 
--- the halves beside the middle byte
-pub old-fits : (text : List ℕ) (t : Tail) (m : ℕ) → LiesIn text t → m + m + 1 ≡ length (bytes_of text t) → t.start + m ≤ length text
-old-fits text t m lies odd = omega (arith, whole-fits text t lies, odd)
+-- the names of a git line
+pub old-fits : (text : List ℕ) (t : Tail) (p : Pair) → LiesIn text t → FitsIn (bytes_of text t) p → t.start + p.old ≤ length text
+old-fits text t p lies fits = omega (arith, whole-fits text t lies, fits.old)
 
-pub new-fits : (text : List ℕ) (t : Tail) (m : ℕ) → LiesIn text t → m + m + 1 ≡ length (bytes_of text t) → (t.start + (m + 1)) + m ≤ length text
-new-fits text t m lies odd = omega (arith, whole-fits text t lies, odd)
+pub new-fits : (text : List ℕ) (t : Tail) (p : Pair) → LiesIn text t → FitsIn (bytes_of text t) p → (t.start + p.start) + p.new ≤ length text
+new-fits text t p lies fits = omega (arith, whole-fits text t lies, fits.new)
 
 -- a line that ends has a byte
 pub ended-some : (line : List ℕ) → ends_line line ≡ true → 1 ≤ length line

@@ -1,12 +1,14 @@
 -- What the lines of a git header say, as lines of a text.
-use Rattle.std.specs.Prelude.{ℕ, ◌+◌, ◌-◌, ◌/◌, ◌%◌, Bool, true, false, ◌&&◌, ◌==◌, List, [], ◌∷◌, ◌++◌, length, reverse, take, drop, get_or, bytes_eq, Option, None, Some, unwrap_or, codes, if◌then◌else◌}
+use Rattle.std.specs.Prelude.{ℕ, ◌+◌, ◌-◌, ◌/◌, ◌%◌, ◌≤◌, Bool, true, false, ◌&&◌, ◌||◌, ◌==◌, nat_lt, List, [], ◌∷◌, ◌++◌, length, reverse, take, drop, get_or, bytes_eq, Option, None, Some, unwrap_or, codes, if◌then◌else◌}
 use Rattle.std.specs.List.{position}
 use Rattle.line_list.specs.declared.Span.{Span}
 use Rattle.hunk_core.specs.declared.Form.{Form}
 use Rattle.hunk_core.specs.declared.Form.TheVariants.{Unified, Context, Normal, Ed}
 use Rattle.patch_header.specs.GitHeaders.{starts, is_git_line, is_extended, extended_run, has_line, action_of}
 use Rattle.patch_header.specs.Region.{Row, row, rows, tail_of, last_tail}
-use Rattle.patch_header.specs.Values.{span_at, bytes_of}
+use Rattle.header_record.specs.Quoted.{begins_quoted}
+use Rattle.patch_header.specs.Values.{blanks, length_or, word_length, span_at, bytes_of}
+use Rattle.patch_header.specs.declared.bare.Pair.{Pair}
 use Rattle.patch_header.specs.declared.region.Tail.{Tail}
 use Rattle.patch_header.specs.declared.ways.Ways.{Ways}
 use Rattle.header_record.specs.declared.Action.{Action}
@@ -61,13 +63,14 @@ to_in rs = to_by (action_of (lines_of rs)) rs
 abbrev pub half : List ℕ → ℕ
 half bytes = length bytes / 2
 
--- both have a slash, at these places, and are equal behind it
+-- both have a slash, at these places, and are equal behind it, or neither has one and they are equal
 abbrev pub same_behind : List ℕ → Option ℕ → List ℕ → Option ℕ → Bool
-same_behind old None new l = false
+same_behind old None new None = bytes_eq old new
+same_behind old None new (Some l) = false
 same_behind old (Some k) new None = false
 same_behind old (Some k) new (Some l) = bytes_eq (drop (k + 1) old) (drop (l + 1) new)
 
--- both are equal behind their first slash
+-- both are equal behind their first slash, or without one
 abbrev pub are_alike : List ℕ → List ℕ → Bool
 are_alike old new = same_behind old (position (λ b. b == 47) old) new (position (λ b. b == 47) new)
 
@@ -75,27 +78,60 @@ are_alike old new = same_behind old (position (λ b. b == 47) old) new (position
 unfoldable pub has_halves : List ℕ → Bool
 has_halves bytes = length bytes % 2 == 1 && (get_or bytes (half bytes) 0 == 32 && are_alike (take (half bytes) bytes) (drop (half bytes + 1) bytes))
 
--- the place of the space between two names
-abbrev pub middle_of : List ℕ → Option ℕ
-middle_of bytes = if has_halves bytes then Some (half bytes) else None
+-- the names beside the space in the middle
+abbrev pub halves : List ℕ → Option Pair
+halves bytes = if has_halves bytes then Some (record { old = half bytes; start = half bytes + 1; new = half bytes }) else None
 
--- the names beside it
-abbrev pub old_beside : Tail → Option ℕ → Option Span
-old_beside t None = None
-old_beside t (Some m) = span_at t.start m
+-- a name in quotes, or a word
+abbrev pub quoted_or_word : List ℕ → ℕ
+quoted_or_word bytes = length_or (word_length bytes) bytes
 
-abbrev pub new_beside : Tail → Option ℕ → Option Span
-new_beside t None = None
-new_beside t (Some m) = span_at (t.start + (m + 1)) m
+-- where the second of two words begins
+abbrev pub second : List ℕ → ℕ
+second bytes = quoted_or_word bytes + blanks (drop (quoted_or_word bytes) bytes)
+
+-- one of the two words begins with a quote
+abbrev pub has_quotes : List ℕ → Bool
+has_quotes bytes = begins_quoted bytes || begins_quoted (drop (second bytes) bytes)
+
+-- where the second word ends that begins at this place
+abbrev pub second_end : List ℕ → ℕ → ℕ
+second_end bytes start = start + quoted_or_word (drop start bytes)
+
+-- there are blanks between both words, and behind the second nothing else
+abbrev pub are_two : List ℕ → ℕ → Bool
+are_two bytes start = nat_lt (quoted_or_word bytes) start && second_end bytes start + blanks (drop (second_end bytes start) bytes) == length bytes
+
+-- two words, the second from this place on
+abbrev pub two_words : List ℕ → ℕ → Option Pair
+two_words bytes start = if are_two bytes start
+    then Some (record { old = quoted_or_word bytes; start = start; new = quoted_or_word (drop start bytes) }) else None
+
+-- both lie within the bytes
+pub record FitsIn (bytes : List ℕ) (p : Pair) : Type 0 where
+  pub old : p.old ≤ length bytes
+  pub new : p.start + p.new ≤ length bytes
+
+-- both names: two words where one has quotes, else the halves beside the middle byte
+abbrev pub both_names : List ℕ → Option Pair
+both_names bytes = if has_quotes bytes then two_words bytes (second bytes) else halves bytes
+
+abbrev pub old_of : Tail → Option Pair → Option Span
+old_of t None = None
+old_of t (Some p) = span_at t.start p.old
+
+abbrev pub new_of : Tail → Option Pair → Option Span
+new_of t None = None
+new_of t (Some p) = span_at (t.start + p.start) p.new
 
 -- the old and the new name of a git line, by what stands behind `diff --git `
 abbrev pub old_half : List ℕ → Option Tail → Option Span
 old_half text None = None
-old_half text (Some t) = old_beside t (middle_of (bytes_of text t))
+old_half text (Some t) = old_of t (both_names (bytes_of text t))
 
 abbrev pub new_half : List ℕ → Option Tail → Option Span
 new_half text None = None
-new_half text (Some t) = new_beside t (middle_of (bytes_of text t))
+new_half text (Some t) = new_of t (both_names (bytes_of text t))
 
 -- ---- a git header that begins lines, the first with this number and at this place
 

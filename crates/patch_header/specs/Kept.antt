@@ -7,7 +7,7 @@ use Rattle.patch_header.specs.GitRows.{old_half, new_half}
 use Rattle.patch_header.specs.Region.{Row, last_tail, old_tail, new_tail}
 use Rattle.patch_header.specs.Said.{action_said, from_said, to_said}
 use Rattle.patch_header.specs.Steps.{names_line}
-use Rattle.patch_header.specs.Values.{name_in, word_in, stamp_in}
+use Rattle.patch_header.specs.Values.{name_in, index_in, word_in, stamp_in}
 use Rattle.patch_header.specs.declared.region.Tail.{Tail}
 use Rattle.patch_header.specs.declared.git_lines.GitLines.{GitLines}
 use Rattle.header_record.specs.declared.Header.{Header}
@@ -21,7 +21,7 @@ opening_said text form at opening rs s = record {
   names_line = names_line (old_tail form rs) (name_in text (old_tail form rs)) opening;
   old_name = name_in text (old_tail form rs);
   new_name = name_in text (new_tail form rs);
-  index = name_in text (last_tail (codes "Index:") rs);
+  index = index_in text (last_tail (codes "Index:") rs);
   prereq = word_in text (last_tail (codes "Prereq:") rs);
   old_stamp = stamp_in text (old_tail form rs);
   new_stamp = stamp_in text (new_tail form rs);
@@ -40,7 +40,7 @@ bare_said text at number rs rest s = record {
   names_line = number;
   old_name = old_half text rest;
   new_name = new_half text rest;
-  index = name_in text (last_tail (codes "Index:") rs);
+  index = index_in text (last_tail (codes "Index:") rs);
   prereq = word_in text (last_tail (codes "Prereq:") rs);
   old_stamp = Unknown;
   new_stamp = Unknown;

@@ -10,7 +10,7 @@ use Rattle.patch_header.specs.Openings.{admits, begins, stop_at}
 use Rattle.patch_header.specs.Region.{Row, rows, last_tail, old_tail, new_tail}
 use Rattle.patch_header.specs.GitHeaders.{action_of, begins_bare}
 use Rattle.patch_header.specs.GitRows.{lines_of, from_in, to_in, old_half, new_half, git_rest, extended_rows, led_by}
-use Rattle.patch_header.specs.Values.{name_in, word_in, stamp_in, IsPieceOf}
+use Rattle.patch_header.specs.Values.{name_in, index_in, word_in, stamp_in, IsPieceOf}
 use Rattle.patch_header.specs.declared.openings.Stop.{Stop}
 use Rattle.patch_header.specs.declared.openings.Stop.TheVariants as stops
 use Rattle.patch_header.specs.declared.region.Tail.{Tail}
@@ -46,7 +46,7 @@ header_with text form at opening rs gs = record {
   names_line = names_line (old_tail form rs) (name_in text (old_tail form rs)) opening;
   old_name = name_in text (old_tail form rs);
   new_name = name_in text (new_tail form rs);
-  index = name_in text (last_tail (codes "Index:") rs);
+  index = index_in text (last_tail (codes "Index:") rs);
   prereq = word_in text (last_tail (codes "Prereq:") rs);
   old_stamp = stamp_in text (old_tail form rs);
   new_stamp = stamp_in text (new_tail form rs);
@@ -65,7 +65,7 @@ bare_with text at number rs = record {
   names_line = number;
   old_name = old_half text (git_rest number at (lines (drop at text)));
   new_name = new_half text (git_rest number at (lines (drop at text)));
-  index = name_in text (last_tail (codes "Index:") rs);
+  index = index_in text (last_tail (codes "Index:") rs);
   prereq = word_in text (last_tail (codes "Prereq:") rs);
   old_stamp = Unknown;
   new_stamp = Unknown;

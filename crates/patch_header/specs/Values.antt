@@ -2,6 +2,7 @@
 use Rattle.std.specs.Prelude.{ℕ, ◌+◌, ◌<◌, ◌≤◌, Bool, not, ◌||◌, ◌==◌, List, length, drop, slice_range, unwrap_or, Option, None, Some, if◌then◌else◌}
 use Rattle.std.specs.List.{position}
 use Rattle.line_list.specs.declared.Span.{Span}
+use Rattle.header_record.specs.Quoted.{begins_quoted, quoted_length}
 use Rattle.stamp.specs.Reading.{stamp_of}
 use Rattle.stamp.specs.declared.Stamp.{Stamp}
 use Rattle.stamp.specs.declared.Stamp.TheVariants.{Unknown}
@@ -27,9 +28,20 @@ blanks bytes = first (λ b. not (is_blank b)) bytes
 abbrev pub unblanked : List ℕ → List ℕ
 unblanked bytes = drop (blanks bytes) bytes
 
--- a name ends at the first tab, else at the first space, else at the end
+-- a name without quotes ends at the first tab, else at the first space, else at the end
+abbrev pub bare_length : List ℕ → ℕ
+bare_length bytes = unwrap_or (position (λ b. b == 9) bytes) (first (λ b. b == 32) bytes)
+
+-- a name in quotes has its quotes with it, and is none where they are no string of C; another one ends where this says
+abbrev pub length_or : ℕ → List ℕ → ℕ
+length_or bare bytes = if begins_quoted bytes then unwrap_or (quoted_length bytes) 0 else bare
+
 abbrev pub name_length : List ℕ → ℕ
-name_length bytes = unwrap_or (position (λ b. b == 9) bytes) (first (λ b. b == 32) bytes)
+name_length bytes = length_or (bare_length bytes) bytes
+
+-- in an `Index:` line it goes up to the first tab, else up to the end
+abbrev pub index_length : List ℕ → ℕ
+index_length bytes = length_or (first (λ b. b == 9) bytes) bytes
 
 -- a word ends at the first white space
 abbrev pub word_length : List ℕ → ℕ
@@ -47,6 +59,11 @@ bytes_of text t = slice_range text t.start t.end
 abbrev pub name_in : List ℕ → Option Tail → Option Span
 name_in text None = None
 name_in text (Some t) = span_at (t.start + blanks (bytes_of text t)) (name_length (unblanked (bytes_of text t)))
+
+-- the same of an `Index:` line
+abbrev pub index_in : List ℕ → Option Tail → Option Span
+index_in text None = None
+index_in text (Some t) = span_at (t.start + blanks (bytes_of text t)) (index_length (unblanked (bytes_of text t)))
 
 -- the word behind the blanks
 abbrev pub word_in : List ℕ → Option Tail → Option Span

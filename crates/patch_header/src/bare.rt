@@ -1,10 +1,11 @@
 //! Bare git headers: file patches without a hunk.
 
-ghost use Rattle.std.specs.Prelude.{◌≡◌, ℕ, ◌<◌, ◌≤◌, ◌+◌, ◌^◌, true, false, not, ◌&&◌, List, ◌++◌, ◌==◌, get_or, length, take, drop, slice_range, sum_by, IfSome};
+ghost use Rattle.std.specs.Prelude.{◌≡◌, ℕ, ◌<◌, ◌≤◌, ◌+◌, ◌^◌, true, false, not, ◌&&◌, List, ◌++◌, ◌==◌, get_or, length, take, drop, slice_range, sum_by, None, IfSome};
+ghost use Rattle.std.specs.List.{position};
 ghost use Rattle.line_list.specs.Lines.{lines, IsLineAt};
 ghost use Rattle.patch_header.specs.Content.{has_dot};
 ghost use Rattle.patch_header.specs.GitHeaders.{git_header, extended_run, behind_run, action_of, is_plain, is_extended, has_new_name, has_names, begins_bare};
-ghost use Rattle.patch_header.specs.GitRows.{has_halves, half, middle_of, are_alike, old_half, new_half};
+ghost use Rattle.patch_header.specs.GitRows.{has_halves, half, halves, quoted_or_word, second, two_words, both_names, are_alike, old_half, new_half, FitsIn};
 ghost use Rattle.patch_header.specs.Openings.{begins_binary, tells_binary};
 ghost use Rattle.patch_header.specs.Said.{SaysWithin};
 ghost use Rattle.patch_header.specs.Kept.{bare_said};
@@ -19,9 +20,9 @@ use crate::git_lines::{
     with_line,
 };
 use crate::region::{Seen, Tail, tail_of};
-use crate::values::{name_in, span_at, word_in};
+use crate::values::{blanks, index_in, length_or, span_at, word_in, word_length};
 use bstr::ByteSlice;
-use header_record::Header;
+use header_record::{Header, begins_quoted};
 use hunk_core::Form;
 use line_list::{Span, next_line};
 use stamp::Stamp;
@@ -143,12 +144,31 @@ fn stands_binary(text: &[u8], at: usize) -> bool
     }
 }
 
-/// Whether both are equal behind their first slash.
+/// Where two names of a git line stand: how long the old one in front is, where the new one begins, and how long it is.
+#[derive(Clone, Copy)]
+pub struct Pair {
+    pub old: usize,
+    pub start: usize,
+    pub new: usize,
+}
+
+/// Whether a name without a slash is equal to another one.
+fn equals_without(old: &[u8], new: &[u8]) -> bool
+    requires { position (λ b. b == 47) old.now ≡ None }
+    ensures { result ≡ are_alike old.now new.now }
+{
+    match new.find_byte(b'/') {
+        None => old == new,
+        Some(_) => false,
+    }
+}
+
+/// Whether both are equal behind their first slash, or without one.
 fn are_alike(old: &[u8], new: &[u8]) -> bool
     ensures { result ≡ are_alike old.now new.now }
 {
     match old.find_byte(b'/') {
-        None => false,
+        None => equals_without(old, new),
         Some(k) => match new.find_byte(b'/') {
             None => false,
             Some(l) => {
@@ -184,16 +204,65 @@ fn half(bytes: &[u8]) -> usize
     bytes.len() / 2
 }
 
-/// The place of the space between two names.
-fn middle_of(bytes: &[u8]) -> Option<usize>
-    ensures is { result ≡ middle_of bytes.now }
-    ensures odd { IfSome result (λ m. m + m + 1 ≡ length bytes.now) }
+/// The names beside the space in the middle.
+fn halves(bytes: &[u8]) -> Option<Pair>
+    ensures is { result ≡ halves bytes.now }
+    ensures within { IfSome result (FitsIn bytes.now) }
 {
     let middle = half(bytes);
     if !has_halves(bytes) {
         return None;
     }
-    Some(middle)
+    Some(Pair {
+        old: middle,
+        start: middle + 1,
+        new: middle,
+    })
+}
+
+/// How long the name in quotes in front is, or the word.
+fn quoted_or_word(bytes: &[u8]) -> usize
+    ensures is { result ≡ quoted_or_word bytes.now }
+    ensures within { result ≤ length bytes.now }
+{
+    length_or(word_length(bytes), bytes)
+}
+
+/// Where the second of two words begins.
+fn second(bytes: &[u8]) -> usize
+    ensures is { result ≡ second bytes.now }
+    ensures within { result ≤ length bytes.now }
+{
+    let word = quoted_or_word(bytes);
+    word + blanks(&bytes[word..])
+}
+
+/// Two words with blanks between them, the second from this place on, and nothing else behind it.
+fn two_words(bytes: &[u8], start: usize) -> Option<Pair>
+    requires { start ≤ length bytes.now }
+    ensures is { result ≡ two_words bytes.now start }
+    ensures within { IfSome result (FitsIn bytes.now) }
+{
+    let old = quoted_or_word(bytes);
+    let new = quoted_or_word(&bytes[start..]);
+    if old < start && start + new + blanks(&bytes[start + new..]) == bytes.len() {
+        Some(Pair { old, start, new })
+    } else {
+        None
+    }
+}
+
+/// Both names of what stands in a git line behind its beginning.
+fn both_names(bytes: &[u8]) -> Option<Pair>
+    ensures is { result ≡ both_names bytes.now }
+    ensures within { IfSome result (FitsIn bytes.now) }
+{
+    let start = second(bytes);
+    if begins_quoted(bytes) || begins_quoted(&bytes[start..]) {
+        two_words(bytes, start)
+    } else {
+        halves(bytes)
+    }
 }
 
 fn old_half(text: &[u8], tail: Option<Tail>) -> Option<Span>
@@ -204,9 +273,9 @@ fn old_half(text: &[u8], tail: Option<Tail>) -> Option<Span>
 {
     match tail {
         None => None,
-        Some(tail) => match middle_of(&text[tail.start..tail.end]) {
+        Some(tail) => match both_names(&text[tail.start..tail.end]) {
             None => None,
-            Some(middle) => span_at(tail.start, middle),
+            Some(pair) => span_at(tail.start, pair.old),
         },
     }
 }
@@ -219,9 +288,9 @@ fn new_half(text: &[u8], tail: Option<Tail>) -> Option<Span>
 {
     match tail {
         None => None,
-        Some(tail) => match middle_of(&text[tail.start..tail.end]) {
+        Some(tail) => match both_names(&text[tail.start..tail.end]) {
             None => None,
-            Some(middle) => span_at(tail.start + (middle + 1), middle),
+            Some(pair) => span_at(tail.start + pair.start, pair.new),
         },
     }
 }
@@ -253,7 +322,7 @@ fn bare_header(
         names_line: number,
         old_name: old_half(text, rest),
         new_name: new_half(text, rest),
-        index: name_in(text, seen.index),
+        index: index_in(text, seen.index),
         prereq: word_in(text, seen.prereq),
         old_stamp: Stamp::Unknown,
         new_stamp: Stamp::Unknown,

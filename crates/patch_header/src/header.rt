@@ -10,7 +10,7 @@ ghost use Rattle.patch_header.specs.Kept.{opening_said};
 
 use crate::git_lines::{GitLines, action_of, from_in, to_in};
 use crate::region::{Seen, Tail};
-use crate::values::{name_in, stamp_in, word_in};
+use crate::values::{index_in, name_in, stamp_in, word_in};
 use header_record::Header;
 use hunk_core::Form;
 use line_list::Span;
@@ -79,7 +79,7 @@ pub fn header_of(
         names_line: names_line(old, old_name, opening),
         old_name,
         new_name: name_in(text, new),
-        index: name_in(text, seen.index),
+        index: index_in(text, seen.index),
         prereq: word_in(text, seen.prereq),
         old_stamp: stamp_in(text, old),
         new_stamp: stamp_in(text, new),

@@ -1,17 +1,18 @@
 //! Names, words and stamps in header lines.
 
-ghost use Rattle.std.specs.Prelude.{◌≡◌, ◌<◌, ◌≤◌, ◌+◌, ◌^◌, length, IfSome};
+ghost use Rattle.std.specs.Prelude.{◌≡◌, ◌<◌, ◌≤◌, ◌+◌, ◌^◌, ◌==◌, length, IfSome};
 ghost use Rattle.patch_header.specs.Region.{LiesIn};
 ghost use Rattle.patch_header.specs.GitRows.{whole_in};
-ghost use Rattle.patch_header.specs.Values.{blanks, unblanked, name_length, word_length, behind_name, span_at, name_in, word_in, stamp_in, bytes_of, IsPieceOf};
+ghost use Rattle.patch_header.specs.Values.{first, blanks, unblanked, bare_length, length_or, name_length, index_length, word_length, behind_name, span_at, name_in, index_in, word_in, stamp_in, bytes_of, IsPieceOf};
 
 use crate::region::Tail;
 use bstr::ByteSlice;
+use header_record::{begins_quoted, quoted_length};
 use line_list::Span;
 use stamp::{Stamp, read_stamp};
 
 /// How many blanks stand in front.
-fn blanks(bytes: &[u8]) -> usize
+pub fn blanks(bytes: &[u8]) -> usize
     ensures is { result ≡ blanks bytes.now }
     ensures within { result ≤ length bytes.now }
 {
@@ -21,9 +22,9 @@ fn blanks(bytes: &[u8]) -> usize
     }
 }
 
-/// How long the name in front is.
-fn name_length(bytes: &[u8]) -> usize
-    ensures is { result ≡ name_length bytes.now }
+/// How long the name in front is, where it has no quotes.
+fn bare_length(bytes: &[u8]) -> usize
+    ensures is { result ≡ bare_length bytes.now }
     ensures within { result ≤ length bytes.now }
 {
     if let Some(tab) = bytes.find_byte(b'\t') {
@@ -35,8 +36,50 @@ fn name_length(bytes: &[u8]) -> usize
     }
 }
 
+/// How long the name in quotes in front is, or else another one.
+pub fn length_or(bare: usize, bytes: &[u8]) -> usize
+    requires { bare ≤ length bytes.now }
+    ensures is { result ≡ length_or bare bytes.now }
+    ensures within { result ≤ length bytes.now }
+{
+    if !begins_quoted(bytes) {
+        return bare;
+    }
+    match quoted_length(bytes) {
+        Some(count) => count,
+        None => 0,
+    }
+}
+
+/// How long the name in front is.
+fn name_length(bytes: &[u8]) -> usize
+    ensures is { result ≡ name_length bytes.now }
+    ensures within { result ≤ length bytes.now }
+{
+    length_or(bare_length(bytes), bytes)
+}
+
+/// How many bytes stand in front of the first tab.
+fn before_tab(bytes: &[u8]) -> usize
+    ensures is { result ≡ first (λ b. b == 9) bytes.now }
+    ensures within { result ≤ length bytes.now }
+{
+    match bytes.find_byte(b'\t') {
+        Some(tab) => tab,
+        None => bytes.len(),
+    }
+}
+
+/// How long the name of an `Index:` line is that stands in front.
+fn index_length(bytes: &[u8]) -> usize
+    ensures is { result ≡ index_length bytes.now }
+    ensures within { result ≤ length bytes.now }
+{
+    length_or(before_tab(bytes), bytes)
+}
+
 /// How long the word in front is.
-fn word_length(bytes: &[u8]) -> usize
+pub fn word_length(bytes: &[u8]) -> usize
     ensures is { result ≡ word_length bytes.now }
     ensures within { result ≤ length bytes.now }
 {
@@ -73,6 +116,23 @@ pub fn name_in(text: &[u8], tail: Option<Tail>) -> Option<Span>
             let bytes = &text[tail.start..tail.end];
             let skipped = blanks(bytes);
             span_at(tail.start + skipped, name_length(&bytes[skipped..]))
+        }
+    }
+}
+
+/// The name of an `Index:` line.
+pub fn index_in(text: &[u8], tail: Option<Tail>) -> Option<Span>
+    requires short { length text.now < 2 ^ 32 }
+    requires lies { IfSome tail (LiesIn text.now) }
+    ensures is { result ≡ index_in text.now tail }
+    ensures piece { IfSome result (IsPieceOf text.now) }
+{
+    match tail {
+        None => None,
+        Some(tail) => {
+            let bytes = &text[tail.start..tail.end];
+            let skipped = blanks(bytes);
+            span_at(tail.start + skipped, index_length(&bytes[skipped..]))
         }
     }
 }

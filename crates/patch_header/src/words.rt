@@ -2,10 +2,11 @@
 
 ghost use Rattle.std.specs.Prelude.{◌≡◌, ◌↔◌, ◌⊎◌, ℕ, List, [], ◌∷◌, ◌++◌, ◌==◌, ◌||◌, ◌+◌, length, true, false, not, Some, None, codes};
 ghost use Rattle.std.specs.List.{list_any, AllByRecursion};
+ghost use Rattle.header_record.specs.Quoted.{begins_quoted, quoted_length};
 ghost use Rattle.hunk_core.specs.LineTests.{ends_line};
 ghost use Rattle.patch_header.specs.Content.{content, is_binary, is_dot};
 ghost use Rattle.patch_header.specs.Region.{Row, tail_of, last_tail};
-ghost use Rattle.patch_header.specs.Values.{is_blank, is_white, unblanked, name_length, word_length};
+ghost use Rattle.patch_header.specs.Values.{is_blank, is_white, unblanked, bare_length, name_length, index_length, word_length};
 ghost use Rattle.patch_header.specs.GitHeaders.{starts, is_git_line, is_extended, extended_run, behind_run, has_line, action_of, begins_bare};
 ghost use Rattle.patch_header.specs.GitRows.{led_rows, are_alike, has_halves};
 ghost use Rattle.patch_header.specs.declared.region.Tail.{Tail};
@@ -33,11 +34,17 @@ pub fn header_lines_in_words()
     // Blanks in front are skipped.
     ensures blanks { (front rest : List ℕ) (b : ℕ) → list_any (λ x. not (is_blank x)) front ≡ false → is_blank b ≡ false → unblanked (front ++ b ∷ rest) ≡ b ∷ rest }
     ensures all_blanks { (front : List ℕ) → list_any (λ x. not (is_blank x)) front ≡ false → unblanked front ≡ [] }
-    // A name ends at the first tab; where there is none, at the first space; else at the end.
-    ensures tab { (name rest : List ℕ) → list_any (λ b. b == 9) name ≡ false → name_length (name ++ 9 ∷ rest) ≡ length name }
+    // A name in quotes ends with them; any other one is as long as it is without quotes.
+    ensures quoted { (bytes : List ℕ) (n : ℕ) → quoted_length bytes ≡ Some n → (name_length bytes ≡ n) × (index_length bytes ≡ n) }
+    ensures bare { (bytes : List ℕ) → begins_quoted bytes ≡ false → name_length bytes ≡ bare_length bytes }
+    // In an `Index:` line that goes up to the first tab, or to the end.
+    ensures index_tab { (name rest : List ℕ) → begins_quoted (name ++ 9 ∷ rest) ≡ false → list_any (λ b. b == 9) name ≡ false → index_length (name ++ 9 ∷ rest) ≡ length name }
+    ensures index { (name : List ℕ) → begins_quoted name ≡ false → list_any (λ b. b == 9) name ≡ false → index_length name ≡ length name }
+    // In other lines it ends at the first tab; where there is none, at the first space; else at the end.
+    ensures tab { (name rest : List ℕ) → list_any (λ b. b == 9) name ≡ false → bare_length (name ++ 9 ∷ rest) ≡ length name }
     ensures space { (name rest : List ℕ) → list_any (λ b. b == 9) (name ++ 32 ∷ rest) ≡ false → list_any (λ b. b == 32) name ≡ false
-        → name_length (name ++ 32 ∷ rest) ≡ length name }
-    ensures whole { (name : List ℕ) → list_any (λ b. b == 9) name ≡ false → list_any (λ b. b == 32) name ≡ false → name_length name ≡ length name }
+        → bare_length (name ++ 32 ∷ rest) ≡ length name }
+    ensures whole { (name : List ℕ) → list_any (λ b. b == 9) name ≡ false → list_any (λ b. b == 32) name ≡ false → bare_length name ≡ length name }
     // A word ends at the first white space, or at the end.
     ensures white { (word rest : List ℕ) (b : ℕ) → list_any is_white word ≡ false → is_white b ≡ true → word_length (word ++ b ∷ rest) ≡ length word }
     ensures word { (word : List ℕ) → list_any is_white word ≡ false → word_length word ≡ length word }

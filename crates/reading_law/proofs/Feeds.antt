@@ -1,5 +1,5 @@
 -- The lines of a hunk that was read have a line feed at most at their ends.
-use Rattle.std.proofs.Common.{◌≡◌, ◌⊎◌, inl, inr, ℕ, suc, ◌-◌, ◌<◌, Bool, true, false, cond, List, [], ◌∷◌, ◌++◌, length, take, refl, sym, ap, subst, ◌∙◌, arith}
+use Rattle.std.proofs.Common.{◌≡◌, ◌⊎◌, inl, inr, ℕ, suc, ◌-◌, ◌<◌, Bool, true, false, cond, eqb, List, [], ◌∷◌, ◌++◌, length, take, refl, sym, ap, subst, ◌∙◌, arith}
 use Rattle.std.specs.List.{AllByRecursion}
 use Rattle.std.proofs.Math.Seq.{take-append_seam}
 use Rattle.std.proofs.lemmas.List.{length-append}
@@ -19,6 +19,7 @@ use Rattle.unified_form.specs.Grammar as unified
 use Rattle.normal_form.specs.Grammar as normal
 use Rattle.normal_form.specs.Stretches.{marks}
 use Rattle.context_form.specs.Grammar as context
+use Rattle.context_form.specs.Parts.{behind_blank}
 use Rattle.context_form.specs.Merging.{part_of}
 use Rattle.reading_law.proofs.Lines.{closed}
 use Rattle.reading_law.proofs.Shown.{line-clean, line-parts}
@@ -114,8 +115,18 @@ normal-feeds least (line ∷ rest) h s p =
 
 -- ---- the context form
 
+behind-inner : (bytes : List ℕ) → NoInner bytes → NoInner (behind_blank bytes)
+behind-inner [] all = all
+behind-inner (c ∷ bytes) all = by (eqb c 32) (eqb c 9)
+  where
+    by : (v w : Bool) → NoInner (cond v bytes (cond w bytes (c ∷ bytes)))
+    by true w = inner-tail c bytes all
+    by false true = inner-tail c bytes all
+    by false false = all
+
 context-shows : (line : List ℕ) (m : Marked) → context.Shows line m → NoInner line → HasNoInnerFeed m
-context-shows line m s all = inner-tail 32 m.line (inner-tail (context.mark_byte s.0 m.mark) (32 ∷ m.line) (subst NoInner s.1 all))
+context-shows line m (inl s) all = subst NoInner (sym s.3) (behind-inner s.1 (inner-tail (context.mark_byte s.0 m.mark) s.1 (subst NoInner s.2 all)))
+context-shows line m (inr s) all = subst NoInner (sym (ap (λ (x : Marked). x.line) s.1)) all
 
 context-line : (own : List (List ℕ)) (m : Marked) (others : List Marked) → context.SpellsLine own m others → ArePieceLines own → HasNoInnerFeed m
 context-line [] m others s all = absurd s

@@ -19,7 +19,7 @@ use Rattle.file_patch.specs.Actions.{is_moved}
 use Rattle.file_patch.specs.PlainPatch.{PlainHeader}
 use Rattle.patch_set.specs.PlainName.{better_of, file_name, plain_name}
 use Rattle.flip_patch.specs.HeaderText.{index_line, names_file}
-use Rattle.reading_law.specs.Said.{behind, header_behind, from_by, last_behind, led_lines, name_said, new_line, old_line, stamp_said, to_by, word_said}
+use Rattle.reading_law.specs.Said.{behind, header_behind, from_by, index_named, last_behind, led_lines, name_said, new_line, old_line, stamp_said, to_by, word_said}
 use Rattle.reading_law.proofs.HeaderLines.{all-reverse}
 use Rattle.patch_header.specs.Written.{holds_space, name_end}
 use Rattle.reading_law.proofs.Lines.{Kind, Minus, Plus, Stars, Index, content-closed, git-none, line_of, mark}
@@ -224,7 +224,7 @@ with_action form old new index prereq action = record {
   names_line = 0;
   old_name = name_said old;
   new_name = name_said new;
-  index = name_said index;
+  index = index_named index;
   prereq = word_said prereq;
   old_stamp = stamp_said old;
   new_stamp = stamp_said new;
@@ -239,7 +239,7 @@ unfolding action_of
 plain-none = refl
 
 pub behind-is : (ways : Ways) (form : Form) (hs : List Head) (old new index : Option (List ℕ)) → old_line form (head_lines hs) ≡ old → new_line form (head_lines hs) ≡ new → last_behind (codes "Index:") (head_lines hs) ≡ index → last_behind (codes "Prereq:") (head_lines hs) ≡ None
-    → header_behind form (head_lines hs) (led_lines ways form (head_lines hs)) ≡ read_header form (name_said old) (name_said new) (name_said index) (stamp_said old) (stamp_said new)
+    → header_behind form (head_lines hs) (led_lines ways form (head_lines hs)) ≡ read_header form (name_said old) (name_said new) (index_named index) (stamp_said old) (stamp_said new)
 behind-is ways form hs old new index a b c d =
     ap (header_behind form (head_lines hs)) (none-leads ways form hs)
     ∙ ap (with_action form (old_line form (head_lines hs)) (new_line form (head_lines hs)) (last_behind (codes "Index:") (head_lines hs)) (last_behind (codes "Prereq:") (head_lines hs))) plain-none
@@ -296,13 +296,13 @@ to-none actions.Deleted rs e = refl
 to-none actions.Rename rs e = absurd (cc)
 to-none actions.Copy rs e = absurd (cc)
 
-pub index-read : (v : Bool) (name : List ℕ) (o index : Option (List ℕ)) → index ≡ name_said o → (v ≡ true → name ≡ text_or_none index) → name_said (shown (codes "Index:") Index (index-of v name)) ≡ cond v index None
+pub index-read : (v : Bool) (name : List ℕ) (o index : Option (List ℕ)) → index ≡ index_named o → (v ≡ true → name ≡ text_or_none index) → index_named (shown (codes "Index:") Index (index-of v name)) ≡ cond v index None
 index-read false name o index e h = refl
 index-read true name o index e h =
-    ap name_said (index-index (name ++ tab_if name))
-    ∙ ap (λ n. name_said (Some (32 ∷ (n ++ tab_if n)))) (h refl ∙ ap text_or_none e)
+    ap index_named (index-index (name ++ tab_if name))
+    ∙ ap (λ n. index_named (Some (32 ∷ (n ++ tab_if n)))) (h refl ∙ ap text_or_none e)
     ∙ said-again o ∙ sym e
 
-pub index-of-clean : (v : Bool) (name : List ℕ) (o index : Option (List ℕ)) → index ≡ name_said o → CleanIn o → (v ≡ true → name ≡ text_or_none index) → CleanIn (index-of v name)
+pub index-of-clean : (v : Bool) (name : List ℕ) (o index : Option (List ℕ)) → index ≡ index_named o → CleanIn o → (v ≡ true → name ≡ text_or_none index) → CleanIn (index-of v name)
 index-of-clean false name o index e clean h = tt
 index-of-clean true name o index e clean h = subst (λ n. NoFeed (n ++ tab_if n)) (sym (h refl ∙ ap text_or_none e)) (index-clean o clean)

@@ -23,14 +23,14 @@ use Rattle.file_patch.specs.Actions.{is_moved}
 use Rattle.file_patch.specs.PlainPatch.{bytes_in, header_of}
 use Rattle.patch_set.specs.PlainName.{file_name, plain_name}
 use Rattle.flip_patch.specs.HeaderText.{header_text, name_lines, named_line, names_file, needs_index}
-use Rattle.reading_law.specs.Said.{header_said, name_said, new_line, old_line}
+use Rattle.reading_law.specs.Said.{header_said, index_named, name_said, new_line, old_line}
 use Rattle.reading_law.specs.TurnedPatches.{turned_header}
 use Rattle.reading_law.proofs.FlipHeaders.{Head, behind-is, head_lines, heads_if, index-joined, index-of, index-of-clean, index-other, index-read, joined-if, last-three, minus-index, minus-minus, minus-plus, minus-stars, name-is, or-first, or-second, or-third, plus-index, plus-minus, plus-plus, prereq-none, read_header, same-header, shown, shown-no, shown-yes, stars-index, stars-minus, stars-stars, three, to-none}
 use Rattle.reading_law.proofs.Hunks.{IsHunkForm}
 use Rattle.reading_law.proofs.Names.{text_or_none}
 use Rattle.reading_law.proofs.Lines.{Kind, Minus, Plus, Stars, Index, line_of, mark, quiet-line}
 use Rattle.reading_law.proofs.Region.{IsShown}
-use Rattle.reading_law.proofs.Shown.{AreRows, CleanIn, Shows, name-shows, opt_line, region-rows}
+use Rattle.reading_law.proofs.Shown.{AreRows, CleanIn, Shows, index-shows, name-shows, opt_line, region-rows}
 
 -- ---- lines of heads
 
@@ -81,7 +81,7 @@ record Named (text : List ℕ) (form : Form) (h : Header) (k l : Kind) (new old 
   form_is : h.form ≡ form
   news : Shows text h.new_name h.new_stamp new
   olds : Shows text h.old_name h.old_stamp old
-  index_name : bytes_in text h.index ≡ name_said index
+  index_name : bytes_in text h.index ≡ index_named index
   index_clean : CleanIn index
   no_to : bytes_in text h.to ≡ None
   lines : name_lines text form Reversed h ≡ opt_line (mark k) new ++ opt_line (mark l) old
@@ -162,7 +162,7 @@ module _ (ways : Ways) (text : List ℕ) (place number : ℕ) (rs : List Row) (a
   unified-named e =
       let ns = name-shows text (codes "+++ ") rs all in
       let os = name-shows text (codes "--- ") rs all in
-      let x = name-shows text (codes "Index:") rs all in
+      let x = index-shows text (codes "Index:") rs all in
       let n : Named text Unified (made Unified) Minus Plus ns.0 os.0 x.0 = record {
         form_is = refl;
         news = ns.1;
@@ -184,7 +184,7 @@ module _ (ways : Ways) (text : List ℕ) (place number : ℕ) (rs : List Row) (a
   context-named e =
       let ns = name-shows text (codes "--- ") rs all in
       let os = name-shows text (codes "*** ") rs all in
-      let x = name-shows text (codes "Index:") rs all in
+      let x = index-shows text (codes "Index:") rs all in
       let n : Named text Context (made Context) Stars Minus ns.0 os.0 x.0 = record {
         form_is = refl;
         news = ns.1;
@@ -207,7 +207,7 @@ module _ (ways : Ways) (text : List ℕ) (place number : ℕ) (rs : List Row) (a
 
   normal-named : is_moved (action_of (lines_of (led_by ways Normal rs))) ≡ false → Headed ways text Normal (made Normal)
   normal-named e =
-      let x = name-shows text (codes "Index:") rs all in
+      let x = index-shows text (codes "Index:") rs all in
       let n : Named text Normal (made Normal) Minus Plus None None x.0 = record {
         form_is = refl;
         news = no-name;

@@ -13,13 +13,15 @@ use Rattle.patch_header.specs.Content.{content}
 use Rattle.patch_header.specs.GitHeaders.{action_of}
 use Rattle.patch_header.specs.GitRows as git
 use Rattle.patch_header.specs.Region.{Row, tail_of, first_some, last_tail, old_tail, new_tail}
-use Rattle.patch_header.specs.Values.{is_blank, is_white, first, blanks, unblanked, name_length, word_length, span_at, bytes_of, name_in, word_in, stamp_in}
+use Rattle.patch_header.specs.Values.{is_blank, is_white, first, blanks, unblanked, bare_length, length_or, name_length, index_length, word_length, span_at, bytes_of, name_in, index_in, word_in, stamp_in}
+use Rattle.header_record.specs.Quoted.{quoted_length}
+use Rattle.header_record.proofs.Quotes.{quoted-fits}
 use Rattle.header_record.specs.declared.Action.{Action}
 use Rattle.header_record.specs.declared.Action.TheVariants.{Plain, New, Deleted, Rename, Copy}
 use Rattle.patch_header.specs.declared.region.Tail.{Tail}
 use Rattle.patch_header.proofs.Rows.{content_short}
 use Rattle.file_patch.specs.PlainPatch.{bytes_in}
-use Rattle.reading_law.specs.Said.{behind, last_behind, bytes_before, name_said, word_said, stamp_said, whole_said, old_line, new_line, from_by, to_by}
+use Rattle.reading_law.specs.Said.{behind, last_behind, bytes_before, index_named, name_said, word_said, stamp_said, whole_said, old_line, new_line, from_by, to_by}
 use Rattle.reading_law.proofs.Places.{StandsAt, take-inside}
 
 -- ---- the bytes behind a beginning
@@ -111,12 +113,30 @@ first-short test bytes = by (position test bytes) refl
     by None e = omega arith
     by (Some k) e = let low : k < length bytes = (position-Some test bytes k 0 e).0 in omega (arith, low)
 
-pub name-short : (bytes : List ℕ) → name_length bytes ≤ length bytes
-name-short bytes = by (position (λ b. eqb b 9) bytes) refl
+bare-short : (bytes : List ℕ) → bare_length bytes ≤ length bytes
+bare-short bytes = by (position (λ b. eqb b 9) bytes) refl
   where
     by : (o : Option ℕ) → position (λ b. eqb b 9) bytes ≡ o → unwrap_or o (first (λ b. eqb b 32) bytes) ≤ length bytes
     by None e = first-short (λ b. eqb b 32) bytes
     by (Some k) e = let low : k < length bytes = (position-Some (λ b. eqb b 9) bytes k 0 e).0 in omega (arith, low)
+
+pub quoted-short : (bare : ℕ) (bytes : List ℕ) → bare ≤ length bytes → length_or bare bytes ≤ length bytes
+quoted-short bare [] le = le
+quoted-short bare (b ∷ bs) le = by (eqb b 34)
+  where
+    sized : (o : Option ℕ) → quoted_length (b ∷ bs) ≡ o → unwrap_or o 0 ≤ length (b ∷ bs)
+    sized None is = omega arith
+    sized (Some n) is = (quoted-fits (b ∷ bs) n is).1
+
+    by : (v : Bool) → cond v (unwrap_or (quoted_length (b ∷ bs)) 0) bare ≤ length (b ∷ bs)
+    by true = sized (quoted_length (b ∷ bs)) refl
+    by false = le
+
+pub name-short : (bytes : List ℕ) → name_length bytes ≤ length bytes
+name-short bytes = quoted-short (bare_length bytes) bytes (bare-short bytes)
+
+pub index-short : (bytes : List ℕ) → index_length bytes ≤ length bytes
+index-short bytes = quoted-short (first (λ b. eqb b 9) bytes) bytes (first-short (λ b. eqb b 9) bytes)
 
 -- so many bytes behind the blanks of a tail
 behind-blanks : (text : List ℕ) (t : Tail) (size : List ℕ → ℕ) → ((bytes : List ℕ) → size bytes ≤ length bytes)
@@ -133,6 +153,10 @@ name-bytes : (text : List ℕ) (o : Option Tail) → bytes_in text (name_in text
 name-bytes text None = refl
 name-bytes text (Some t) = behind-blanks text t name_length name-short
 
+pub index-bytes : (text : List ℕ) (o : Option Tail) → bytes_in text (index_in text o) ≡ index_named (option_map (bytes_of text) o)
+index-bytes text None = refl
+index-bytes text (Some t) = behind-blanks text t index_length index-short
+
 word-bytes : (text : List ℕ) (o : Option Tail) → bytes_in text (word_in text o) ≡ word_said (option_map (bytes_of text) o)
 word-bytes text None = refl
 word-bytes text (Some t) = behind-blanks text t word_length (λ bytes. first-short is_white bytes)
@@ -146,6 +170,9 @@ stamp-bytes text (Some t) = refl
 module _ (text : List ℕ) (rs : List Row) (all : AllByRecursion (StandsAt text) rs) where
   pub name-said : (mark : List ℕ) → bytes_in text (name_in text (last_tail mark rs)) ≡ name_said (last_behind mark (git.lines_of rs))
   name-said mark = last-alike text mark (λ o. bytes_in text (name_in text o)) name_said refl (λ r s. name-bytes text (tail_of mark r) ∙ ap name_said (tail-bytes text mark r s)) rs all
+
+  pub index-said : bytes_in text (index_in text (last_tail (codes "Index:") rs)) ≡ index_named (last_behind (codes "Index:") (git.lines_of rs))
+  index-said = last-alike text (codes "Index:") (λ o. bytes_in text (index_in text o)) index_named refl (λ r s. index-bytes text (tail_of (codes "Index:") r) ∙ ap index_named (tail-bytes text (codes "Index:") r s)) rs all
 
   pub word-said : (mark : List ℕ) → bytes_in text (word_in text (last_tail mark rs)) ≡ word_said (last_behind mark (git.lines_of rs))
   word-said mark = last-alike text mark (λ o. bytes_in text (word_in text o)) word_said refl (λ r s. word-bytes text (tail_of mark r) ∙ ap word_said (tail-bytes text mark r s)) rs all

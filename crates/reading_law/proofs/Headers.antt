@@ -1,8 +1,8 @@
 -- The header that a text has is the one that its lines say.
-use Rattle.std.proofs.Common.{◌≡◌, ◌+◌, ◌-◌, ◌≤◌, ℕ, Bool, true, false, cond, List, [], ◌∷◌, ◌++◌, length, drop, Option, None, Some, refl, sym, ap, ◌∙◌, arith}
+use Rattle.std.proofs.Common.{◌≡◌, ◌+◌, ◌-◌, ◌≤◌, ℕ, Bool, true, false, cond, not, List, [], ◌∷◌, ◌++◌, length, drop, Option, None, Some, refl, sym, ap, subst, ◌∙◌, arith}
 use Rattle.std.specs.Prelude.{codes, option_map}
 use Rattle.std.specs.List.{AllByRecursion}
-use Rattle.std.proofs.lemmas.List.{length-take}
+use Rattle.std.proofs.lemmas.List.{length-drop, length-take}
 use Rattle.std.proofs.lemmas.Option.{same_Some}
 use Rattle.line_list.specs.Lines.{lines}
 use Rattle.hunk_core.specs.declared.Form.{Form}
@@ -12,10 +12,11 @@ use Rattle.patch_header.specs.GitHeaders.{extended_run, behind_run, git_header, 
 use Rattle.patch_header.specs.GitRows as git
 use Rattle.patch_header.specs.Openings.{stop_at}
 use Rattle.patch_header.specs.Region.{row, rows, last_tail, old_tail, new_tail}
-use Rattle.patch_header.specs.Values.{span_at, bytes_of, name_in, word_in, stamp_in}
+use Rattle.patch_header.specs.Values.{blanks, is_blank, is_white, word_length, span_at, bytes_of, name_in, index_in, word_in, stamp_in}
 use Rattle.patch_header.specs.Steps.{header_with, bare_with, header_at}
 use Rattle.header_record.specs.declared.Action.{Action}
 use Rattle.header_record.specs.declared.Header.{Header}
+use Rattle.patch_header.specs.declared.bare.Pair.{Pair}
 use Rattle.patch_header.specs.declared.openings.Stop.{Stop}
 use Rattle.patch_header.specs.declared.openings.Stop.TheVariants.{Opening, Binary, Bare}
 use Rattle.patch_header.specs.declared.region.Tail.{Tail}
@@ -27,9 +28,9 @@ use Rattle.patch_header.proofs.ScanLemmas.{run-split}
 use Rattle.file_patch.specs.PlainPatch.{PlainHeader, bytes_in, header_of}
 use Rattle.reading_law.specs.Unnumbered.{unnumbered_header}
 use Rattle.reading_law.specs.Said as said
-use Rattle.reading_law.specs.Said.{behind, last_behind, name_said, word_said, stamp_said, old_line, new_line, from_by, to_by, led_lines, old_beside, new_beside, header_behind, bare_header, header_said}
+use Rattle.reading_law.specs.Said.{behind, last_behind, name_said, word_said, stamp_said, old_line, new_line, from_by, to_by, index_named, led_lines, old_of, new_of, header_behind, bare_header, header_said}
 use Rattle.reading_law.proofs.Places.{StandsAt, first-bytes, rows-stand, skip-line}
-use Rattle.reading_law.proofs.HeaderLines.{span-bytes, tail-bytes, name-said, word-said, old-name, new-name, old-stamp, new-stamp, from-said, to-said}
+use Rattle.reading_law.proofs.HeaderLines.{first-short, quoted-short, span-bytes, tail-bytes, index-said, word-said, old-name, new-name, old-stamp, new-stamp, from-said, to-said}
 use Rattle.reading_law.proofs.LedLines.{led-is, led-all}
 use Rattle.reading_law.proofs.Joining.{no-header, run-tail}
 
@@ -66,7 +67,7 @@ opening-said text ways form place opening line at region all =
     let those : AllByRecursion (StandsAt text) gs = led-all (StandsAt text) ways form rs all in
     let old : bytes_in text (name_in text (old_tail form rs)) ≡ name_said (old_line form region) = old-name text rs all form ∙ ap (λ l. name_said (old_line form l)) ls in
     let new : bytes_in text (name_in text (new_tail form rs)) ≡ name_said (new_line form region) = new-name text rs all form ∙ ap (λ l. name_said (new_line form l)) ls in
-    let index : bytes_in text (name_in text (last_tail (codes "Index:") rs)) ≡ name_said (last_behind (codes "Index:") region) = name-said text rs all (codes "Index:") ∙ ap (λ l. name_said (last_behind (codes "Index:") l)) ls in
+    let index : bytes_in text (index_in text (last_tail (codes "Index:") rs)) ≡ index_named (last_behind (codes "Index:") region) = index-said text rs all ∙ ap (λ l. index_named (last_behind (codes "Index:") l)) ls in
     let prereq : bytes_in text (word_in text (last_tail (codes "Prereq:") rs)) ≡ word_said (last_behind (codes "Prereq:") region) = word-said text rs all (codes "Prereq:") ∙ ap (λ l. word_said (last_behind (codes "Prereq:") l)) ls in
     let old_at : stamp_in text (old_tail form rs) ≡ stamp_said (old_line form region) = old-stamp text rs all form ∙ ap (λ l. stamp_said (old_line form l)) ls in
     let new_at : stamp_in text (new_tail form rs) ≡ stamp_said (new_line form region) = new-stamp text rs all form ∙ ap (λ l. stamp_said (new_line form l)) ls in
@@ -76,34 +77,58 @@ opening-said text ways form place opening line at region all =
 
 -- ---- a bare git header
 
-middle-odd : (bytes : List ℕ) (m : ℕ) → git.middle_of bytes ≡ Some m → m + m + 1 ≡ length bytes
-middle-odd bytes m h = by (git.has_halves bytes) refl h
+word-short : (bytes : List ℕ) → git.quoted_or_word bytes ≤ length bytes
+word-short bytes = quoted-short (word_length bytes) bytes (first-short is_white bytes)
+
+second-short : (bytes : List ℕ) → git.second bytes + git.quoted_or_word (drop (git.second bytes) bytes) ≤ length bytes
+second-short bytes =
+    let n = git.quoted_or_word bytes in
+    let word : n ≤ length bytes = word-short bytes in
+    let blank : blanks (drop (git.quoted_or_word bytes) bytes) ≤ length (drop (git.quoted_or_word bytes) bytes) = first-short (λ b. not (is_blank b)) (drop (git.quoted_or_word bytes) bytes) in
+    let other : git.quoted_or_word (drop (git.second bytes) bytes) ≤ length (drop (git.second bytes) bytes) = word-short (drop (git.second bytes) bytes) in
+    omega (arith, word, blank, other, length-drop (git.quoted_or_word bytes) bytes, length-drop (git.second bytes) bytes)
+
+names-fit : (bytes : List ℕ) (p : Pair) → git.both_names bytes ≡ Some p → git.FitsIn bytes p
+names-fit bytes p h = by (git.has_quotes bytes) refl h
   where
-    by : (v : Bool) → git.has_halves bytes ≡ v → cond v (Some (git.half bytes)) None ≡ Some m → m + m + 1 ≡ length bytes
-    by true e k = let is : git.half bytes ≡ m = cc in let odd : git.half bytes + git.half bytes + 1 ≡ length bytes = odd-half bytes e in omega (arith, is, odd)
-    by false e k = absurd cc
+    same : (x y : Pair) → Some x ≡ Some y → x ≡ y
+    same x y e = cc
+
+    half-so : (v : Bool) → git.has_halves bytes ≡ v → cond v (Some (record { old = git.half bytes; start = git.half bytes + 1; new = git.half bytes })) None ≡ Some p → git.FitsIn bytes p
+    half-so true e k =
+        let odd : git.half bytes + git.half bytes + 1 ≡ length bytes = odd-half bytes e in
+        subst (git.FitsIn bytes) (same _ p k) (record { old = omega (arith, odd); new = omega (arith, odd) })
+    half-so false e k = absurd cc
+
+    words-so : (v : Bool) → git.are_two bytes (git.second bytes) ≡ v → cond v (Some (record { old = git.quoted_or_word bytes; start = git.second bytes; new = git.quoted_or_word (drop (git.second bytes) bytes) })) None ≡ Some p → git.FitsIn bytes p
+    words-so true e k = subst (git.FitsIn bytes) (same _ p k) (record { old = word-short bytes; new = second-short bytes })
+    words-so false e k = absurd cc
+
+    by : (v : Bool) → git.has_quotes bytes ≡ v → cond v (git.two_words bytes (git.second bytes)) (git.halves bytes) ≡ Some p → git.FitsIn bytes p
+    by true e k = words-so (git.are_two bytes (git.second bytes)) refl k
+    by false e k = half-so (git.has_halves bytes) refl k
 
 tail-width : (text : List ℕ) (t : Tail) → length (bytes_of text t) ≤ t.end - t.start
 tail-width text t = omega (arith, length-take (t.end - t.start) (drop t.start text))
 
-old-side : (text : List ℕ) (t : Tail) (o : Option ℕ) → git.middle_of (bytes_of text t) ≡ o → bytes_in text (git.old_beside t o) ≡ old_beside (bytes_of text t) o
+old-side : (text : List ℕ) (t : Tail) (o : Option Pair) → git.both_names (bytes_of text t) ≡ o → bytes_in text (git.old_of t o) ≡ old_of (bytes_of text t) o
 old-side text t None e = refl
-old-side text t (Some m) e =
+old-side text t (Some p) e =
     let start : t.start + 0 ≡ t.start = omega arith in
-    ap (λ k. bytes_in text (span_at k m)) (sym start)
-    ∙ span-bytes text (bytes_of text t) t.start (t.end - t.start) 0 m refl (omega (arith, middle-odd (bytes_of text t) m e, tail-width text t))
+    ap (λ k. bytes_in text (span_at k p.old)) (sym start)
+    ∙ span-bytes text (bytes_of text t) t.start (t.end - t.start) 0 p.old refl (omega (arith, (names-fit (bytes_of text t) p e).old, tail-width text t))
 
-new-side : (text : List ℕ) (t : Tail) (o : Option ℕ) → git.middle_of (bytes_of text t) ≡ o → bytes_in text (git.new_beside t o) ≡ new_beside (bytes_of text t) o
+new-side : (text : List ℕ) (t : Tail) (o : Option Pair) → git.both_names (bytes_of text t) ≡ o → bytes_in text (git.new_of t o) ≡ new_of (bytes_of text t) o
 new-side text t None e = refl
-new-side text t (Some m) e = span-bytes text (bytes_of text t) t.start (t.end - t.start) (m + 1) m refl (omega (arith, middle-odd (bytes_of text t) m e, tail-width text t))
+new-side text t (Some p) e = span-bytes text (bytes_of text t) t.start (t.end - t.start) p.start p.new refl (omega (arith, (names-fit (bytes_of text t) p e).new, tail-width text t))
 
 old-half : (text : List ℕ) (o : Option Tail) → bytes_in text (git.old_half text o) ≡ said.old_half (option_map (bytes_of text) o)
 old-half text None = refl
-old-half text (Some t) = old-side text t (git.middle_of (bytes_of text t)) refl
+old-half text (Some t) = old-side text t (git.both_names (bytes_of text t)) refl
 
 new-half : (text : List ℕ) (o : Option Tail) → bytes_in text (git.new_half text o) ≡ said.new_half (option_map (bytes_of text) o)
 new-half text None = refl
-new-half text (Some t) = new-side text t (git.middle_of (bytes_of text t)) refl
+new-half text (Some t) = new-side text t (git.both_names (bytes_of text t)) refl
 
 -- the rest of a git line
 git-bytes : (text : List ℕ) (number place : ℕ) (line : List ℕ) (more : List (List ℕ)) → lines (drop place text) ≡ line ∷ more → option_map (bytes_of text) (git.git_rest number place (line ∷ more)) ≡ behind (codes "diff --git ") line
@@ -124,7 +149,7 @@ bare-said text place number line at region git_line more all e =
     ap (λ o. bytes_in text (git.old_half text o)) rest ∙ old-half text (git.git_rest number place (git_line ∷ more)) ∙ ap said.old_half (git-bytes text number place git_line more e) in
     let new : bytes_in text (git.new_half text (git.git_rest number place (lines (drop place text)))) ≡ said.new_half (behind (codes "diff --git ") git_line) =
     ap (λ o. bytes_in text (git.new_half text o)) rest ∙ new-half text (git.git_rest number place (git_line ∷ more)) ∙ ap said.new_half (git-bytes text number place git_line more e) in
-    let index : bytes_in text (name_in text (last_tail (codes "Index:") rs)) ≡ name_said (last_behind (codes "Index:") region) = name-said text rs all (codes "Index:") ∙ ap (λ l. name_said (last_behind (codes "Index:") l)) ls in
+    let index : bytes_in text (index_in text (last_tail (codes "Index:") rs)) ≡ index_named (last_behind (codes "Index:") region) = index-said text rs all ∙ ap (λ l. index_named (last_behind (codes "Index:") l)) ls in
     let prereq : bytes_in text (word_in text (last_tail (codes "Prereq:") rs)) ≡ word_said (last_behind (codes "Prereq:") region) = word-said text rs all (codes "Prereq:") ∙ ap (λ l. word_said (last_behind (codes "Prereq:") l)) ls in
     let action : action_of (git.lines_of (git.extended_rows number place (lines (drop place text)))) ≡ action_of (extended_run more) = ap (λ r. action_of (git.lines_of r)) extended ∙ ap action_of lines_are in
     let from : bytes_in text (git.from_in (git.extended_rows number place (lines (drop place text)))) ≡ from_by (action_of (extended_run more)) (extended_run more) =

@@ -145,6 +145,7 @@ context-least least own behind h le s = record {
   old_fits = s.old_fits;
   new_fits = s.new_fits;
   order = le;
+  begins = s.begins;
   told = s.told;
 }
 

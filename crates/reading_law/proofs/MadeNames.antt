@@ -11,7 +11,7 @@ use Rattle.num_text.proofs.Decimal.{decimal-numeral}
 use Rattle.hunk_core.specs.declared.Form.TheVariants.{Unified}
 use Rattle.stamp.specs.Reading.{digit_at, four_at, named_of, numeric_day, numeric_of, stamp_of, two_at}
 use Rattle.stamp.specs.declared.Stamp.TheVariants.{Unknown}
-use Rattle.patch_header.specs.Values.{blanks, first, is_blank, name_length, unblanked}
+use Rattle.patch_header.specs.Values.{bare_length, blanks, first, is_blank, name_length, unblanked}
 use Rattle.patch_header.specs.declared.openings.Stop.TheVariants.{Opening}
 use Rattle.patch_header.specs.declared.ways.Ways.{Ways}
 use Rattle.patch_gen.specs.Patches.{file_name}
@@ -40,12 +40,15 @@ no-spaces : (bs : List ℕ) → IsUnbroken bs → AllByRecursion (λ b. eqb b 32
 no-spaces [] all = tt
 no-spaces (b ∷ bs) all = ((or_parts (eqb b 32) (eqb b 9) all.0).0, no-spaces bs all.1)
 
-length-whole : (bs : List ℕ) → IsUnbroken bs → name_length bs ≡ length bs
-length-whole bs all =
+bare-whole : (bs : List ℕ) → IsUnbroken bs → bare_length bs ≡ length bs
+bare-whole bs all =
     let none : position_or_len (λ b. eqb b 9) bs ≡ length bs = none-stops (λ b. eqb b 9) bs (no-tabs bs all) in
     let more : nat_lt (position_or_len (λ b. eqb b 9) bs) (length bs) ≡ false = grind (arith, nat_tests) in
     ap (λ v. unwrap_or (cond v (Some (position_or_len (λ b. eqb b 9) bs)) None) (first (λ b. eqb b 32) bs)) more
     ∙ first-is (λ b. eqb b 32) bs ∙ none-stops (λ b. eqb b 32) bs (no-spaces bs all)
+
+length-whole : (c : ℕ) (cs : List ℕ) → eqb c 34 ≡ false → IsUnbroken (c ∷ cs) → name_length (c ∷ cs) ≡ length (c ∷ cs)
+length-whole c cs bare all = rw bare (bare-whole (c ∷ cs) all)
 
 unblanked-whole : (c : ℕ) (cs : List ℕ) → is_blank c ≡ false → unblanked (c ∷ cs) ≡ c ∷ cs
 unblanked-whole c cs plain =
@@ -53,12 +56,12 @@ unblanked-whole c cs plain =
     ap (λ n. drop n (c ∷ cs)) none
 
 -- such a name is read whole, and no stamp behind it
-name-read : (c : ℕ) (cs : List ℕ) → IsUnbroken (c ∷ cs) → name_said (Some (c ∷ cs)) ≡ Some (c ∷ cs)
-name-read c cs all =
+name-read : (c : ℕ) (cs : List ℕ) → eqb c 34 ≡ false → IsUnbroken (c ∷ cs) → name_said (Some (c ∷ cs)) ≡ Some (c ∷ cs)
+name-read c cs bare all =
     let bs : List ℕ = c ∷ cs in
     let some : eqb (length bs) 0 ≡ false = grind (arith, nat_tests) in
     ap (λ x. bytes_before (name_length x) x) (unblanked-whole c cs all.0)
-    ∙ ap (λ n. bytes_before n bs) (length-whole bs all)
+    ∙ ap (λ n. bytes_before n bs) (length-whole c cs bare all)
     ∙ ap (λ v. cond v None (Some (take (length bs) bs))) some
     ∙ ap (λ (x : List ℕ). Some x) (ap (take (length bs)) (sym (append-nil bs)) ∙ take-append_seam bs [])
 
@@ -66,11 +69,11 @@ stamp-none : stamp_of [] ≡ Unknown
 unfolding numeric_of numeric_day four_at two_at digit_at named_of
 stamp-none = refl
 
-stamp-read : (c : ℕ) (cs : List ℕ) → IsUnbroken (c ∷ cs) → stamp_said (Some (c ∷ cs)) ≡ Unknown
-stamp-read c cs all =
+stamp-read : (c : ℕ) (cs : List ℕ) → eqb c 34 ≡ false → IsUnbroken (c ∷ cs) → stamp_said (Some (c ∷ cs)) ≡ Unknown
+stamp-read c cs bare all =
     let bs : List ℕ = c ∷ cs in
     ap (λ x. stamp_of (unblanked (drop (name_length x) x))) (unblanked-whole c cs all.0)
-    ∙ ap (λ n. stamp_of (unblanked (drop n bs))) (length-whole bs all)
+    ∙ ap (λ n. stamp_of (unblanked (drop n bs))) (length-whole c cs bare all)
     ∙ ap (λ x. stamp_of (unblanked x)) (ap (drop (length bs)) (sym (append-nil bs)) ∙ drop-append_seam bs [])
     ∙ stamp-none
 
@@ -125,8 +128,8 @@ prereq-is n =
 pub header-read : (ways : Ways) (i : ℕ) (body : List (List ℕ)) → header_said ways (head_lines (heads i)) body (Opening Unified) ≡ Some (made_header i)
 header-read ways i body =
     let n : List ℕ = file_name i in
-    let name : name_said (Some n) ≡ Some n = name-read 103 (101 ∷ 110 ∷ 47 ∷ 102 ∷ decimal i) (name-plain i) in
-    let stamp : stamp_said (Some n) ≡ Unknown = stamp-read 103 (101 ∷ 110 ∷ 47 ∷ 102 ∷ decimal i) (name-plain i) in
+    let name : name_said (Some n) ≡ Some n = name-read 103 (101 ∷ 110 ∷ 47 ∷ 102 ∷ decimal i) refl (name-plain i) in
+    let stamp : stamp_said (Some n) ≡ Unknown = stamp-read 103 (101 ∷ 110 ∷ 47 ∷ 102 ∷ decimal i) refl (name-plain i) in
     ap (λ x. Some x)
     (behind-is ways Unified (heads i) (Some n) (Some n) None (old-is n) (new-is n) (index-is n) (prereq-is n)
     ∙ same-header Unified (name_said (Some n)) (name_said (Some n)) None (Some n) (Some n) None (stamp_said (Some n)) (stamp_said (Some n)) Unknown Unknown name name refl stamp stamp)

@@ -6,7 +6,7 @@ use Rattle.std.proofs.Math.Seq.{drop-append_seam, take-append_seam}
 use Rattle.std.proofs.lemmas.Bool.Decides.{nat_tests}
 use Rattle.std.proofs.lemmas.List.{drop-append-le, drop-drop, length-drop, take-append-drop}
 use Rattle.std.proofs.lemmas.List.Sums.{prefix_len-le-length}
-use Rattle.std.proofs.lemmas.Bool.{or_parts}
+use Rattle.std.proofs.lemmas.Bool.{eqb-true, or_parts}
 use Rattle.std.proofs.lemmas.Option.{same_Some}
 use Rattle.line_list.specs.declared.Span.{Span}
 use Rattle.line_list.specs.Lines.{ArePieces, IsLine, lines}
@@ -21,12 +21,12 @@ use Rattle.stamp.specs.Reading.{stamp_of}
 use Rattle.stamp.specs.Reading as reading
 use Rattle.patch_header.specs.Content.{content}
 use Rattle.patch_header.specs.Region.{Row, first_some, last_tail, rows, tail_of}
-use Rattle.patch_header.specs.Values.{behind_name, blanks, bytes_of, first, is_blank, name_in, name_length, span_at, stamp_in, unblanked}
+use Rattle.patch_header.specs.Values.{behind_name, blanks, bytes_of, first, index_in, is_blank, bare_length, name_in, name_length, span_at, stamp_in, unblanked}
 use Rattle.patch_header.specs.declared.region.Tail.{Tail}
 use Rattle.file_patch.specs.PlainPatch.{bytes_in}
 use Rattle.flip_patch.specs.HeaderText.{first_line, named_line, rest_of_line}
-use Rattle.reading_law.specs.Said.{bytes_before, name_said, stamp_said}
-use Rattle.reading_law.proofs.HeaderLines.{all-reverse, first-short, span-bytes, tail-bytes, name-short}
+use Rattle.reading_law.specs.Said.{bytes_before, index_named, name_said, stamp_said}
+use Rattle.reading_law.proofs.HeaderLines.{all-reverse, first-short, index-bytes, span-bytes, tail-bytes, name-short}
 use Rattle.reading_law.proofs.Places.{StandsAt, rows-stand}
 use Rattle.reading_law.proofs.Lines.{closed, content-closed}
 
@@ -190,16 +190,41 @@ not-blank c cs e = by (is_blank c) refl
     by true t = let none : position_or_len (λ b. not (is_blank b)) (c ∷ cs) ≡ 0 = sym (first-is (λ b. not (is_blank b)) (c ∷ cs)) ∙ e in let some : position_or_len (λ b. not (is_blank b)) (c ∷ cs) ≡ suc (prefix_len (λ x. not (not (is_blank x))) cs) = rw t (omega arith) in absurd (omega (arith, none, some))
     by false t = t
 
-name-none : (bs : List ℕ) → blanks bs ≡ 0 → name_length bs ≡ 0 → bs ≡ []
-name-none [] e n = refl
-name-none (c ∷ cs) e n = absurd (by (position (λ b. eqb b 9) (c ∷ cs)) refl n)
+-- a name that begins with a quote is in place of a stamp
+quote-stamp : (cs : List ℕ) → stamp_of (34 ∷ cs) ≡ Unknown
+unfolding reading.numeric_of reading.numeric_day reading.four_at reading.two_at reading.digit_at reading.named_of reading.named_day reading.place_among
+quote-stamp cs = by (eqb (length (34 ∷ cs)) 24) refl
+  where
+    by : (v : Bool) → eqb (length (34 ∷ cs)) 24 ≡ v → stamp_of (34 ∷ cs) ≡ Unknown
+    by true e = rw e refl
+    by false e = rw e refl
+
+bare-some : (c : ℕ) (cs : List ℕ) → is_blank c ≡ false → 1 ≤ bare_length (c ∷ cs)
+bare-some c cs plain = by (position (λ b. eqb b 9) (c ∷ cs)) refl
   where
     no : (eqb c 32 ≡ false) × (eqb c 9 ≡ false)
-    no = or_parts (eqb c 32) (eqb c 9) (not-blank c cs e)
+    no = or_parts (eqb c 32) (eqb c 9) plain
 
-    by : (o : Option ℕ) → position (λ b. eqb b 9) (c ∷ cs) ≡ o → unwrap_or o (first (λ b. eqb b 32) (c ∷ cs)) ≡ 0 → ⊥
-    by None is z = let some : 1 ≤ position_or_len (λ b. eqb b 32) (c ∷ cs) = pol-some (λ b. eqb b 32) c cs no.0 in omega (arith, some, z, first-is (λ b. eqb b 32) (c ∷ cs))
-    by (Some k) is z = let some : 1 ≤ position_or_len (λ b. eqb b 9) (c ∷ cs) = pol-some (λ b. eqb b 9) c cs no.1 in omega (arith, some, z, pos-is (λ b. eqb b 9) (c ∷ cs) k is)
+    by : (o : Option ℕ) → position (λ b. eqb b 9) (c ∷ cs) ≡ o → 1 ≤ unwrap_or o (first (λ b. eqb b 32) (c ∷ cs))
+    by None is = let some : 1 ≤ position_or_len (λ b. eqb b 32) (c ∷ cs) = pol-some (λ b. eqb b 32) c cs no.0 in omega (arith, some, first-is (λ b. eqb b 32) (c ∷ cs))
+    by (Some k) is = let some : 1 ≤ position_or_len (λ b. eqb b 9) (c ∷ cs) = pol-some (λ b. eqb b 9) c cs no.1 in omega (arith, some, pos-is (λ b. eqb b 9) (c ∷ cs) k is)
+
+-- where there is no name there is no stamp
+none-stamp : (bs : List ℕ) → blanks bs ≡ 0 → name_length bs ≡ 0 → stamp_of (behind_name bs) ≡ Unknown
+none-stamp [] e n = no-stamp
+none-stamp (c ∷ cs) e n = by (eqb c 34) refl
+  where
+    by : (v : Bool) → eqb c 34 ≡ v → stamp_of (behind_name (c ∷ cs)) ≡ Unknown
+    by true is =
+        let quote : c ≡ 34 = eqb-true c 34 is in
+        ap (λ k. stamp_of (unblanked (drop k (c ∷ cs)))) n
+        ∙ ap (λ k. stamp_of (drop k (c ∷ cs))) e
+        ∙ ap (λ x. stamp_of (x ∷ cs)) quote
+        ∙ quote-stamp cs
+    by false is =
+        let bare : bare_length (c ∷ cs) ≡ 0 = sym (rw is refl) ∙ n in
+        let some : 1 ≤ bare_length (c ∷ cs) = bare-some c cs (not-blank c cs e) in
+        absurd (omega (arith, bare, some))
 
 tail-shows : (text : List ℕ) (t : Tail) (b : List ℕ) → IsTail text t b → (o : Option (List ℕ)) × Shows text (name_in text (Some t)) (stamp_in text (Some t)) o
 tail-shows text t b at = by (eqb (name_length (unblanked b)) 0) refl
@@ -219,9 +244,8 @@ tail-shows text t b at = by (eqb (name_length (unblanked b)) 0) refl
     by : (v : Bool) → eqb (name_length (unblanked b)) 0 ≡ v → (o : Option (List ℕ)) × Shows text (name_in text (Some t)) (stamp_in text (Some t)) o
     by true e =
         let none : name_length (unblanked b) ≡ 0 = grind (arith, nat_tests) in
-        let nothing : unblanked b ≡ [] = name-none (unblanked b) (blanks-none b) none in
         let span : name_in text (Some t) ≡ None = spans ∙ rw e refl in
-        (None, record { line = λ m. ap (named_line text m) span; name = ap (bytes_in text) span; stamp = stamps ∙ ap (λ x. stamp_of (behind_name x)) nothing ∙ no-stamp; clean = tt })
+        (None, record { line = λ m. ap (named_line text m) span; name = ap (bytes_in text) span; stamp = stamps ∙ none-stamp (unblanked b) (blanks-none b) none; clean = tt })
     by false e =
         let span : name_in text (Some t) ≡ Some (record { start = t.start + blanks b; end = t.start + blanks b + name_length (unblanked b) }) = spans ∙ rw e refl in
         let room : blanks b + name_length (unblanked b) ≤ length b = omega (arith, name-short (unblanked b), length-drop (blanks b) b, low) in (
@@ -244,3 +268,19 @@ name-shows text m rs all = by (last_tail m rs) refl
         let r = first-in (IsRow text) m (reverse rs) t (all-reverse (IsRow text) rs all) e in
         let b = row-tail text m r.0 t r.1.0 r.1.1 in
         subst (λ t. (o : Option (List ℕ)) × Shows text (name_in text t) (stamp_in text t) o) (sym e) (tail-shows text t b.0 b.1)
+
+-- ---- the name of an `Index:` line
+
+pub record Indexes (text : List ℕ) (span : Option Span) (o : Option (List ℕ)) : Type 0 where
+  pub name : bytes_in text span ≡ index_named o
+  pub clean : CleanIn o
+
+pub index-shows : (text m : List ℕ) (rs : List Row) → AreRows text rs → (o : Option (List ℕ)) × Indexes text (index_in text (last_tail m rs)) o
+index-shows text m rs all = by (last_tail m rs) refl
+  where
+    by : (t : Option Tail) → last_tail m rs ≡ t → (o : Option (List ℕ)) × Indexes text (index_in text (last_tail m rs)) o
+    by None e = subst (λ t. (o : Option (List ℕ)) × Indexes text (index_in text t) o) (sym e) (None, record { name = refl; clean = tt })
+    by (Some t) e =
+        let r = first-in (IsRow text) m (reverse rs) t (all-reverse (IsRow text) rs all) e in
+        let b = row-tail text m r.0 t r.1.0 r.1.1 in
+        subst (λ t. (o : Option (List ℕ)) × Indexes text (index_in text t) o) (sym e) (Some b.0, record { name = index-bytes text (Some t) ∙ ap (λ x. index_named (Some x)) b.1.bytes; clean = b.1.clean })

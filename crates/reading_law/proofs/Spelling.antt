@@ -100,6 +100,7 @@ hunk-told least own behind other h keeps s = record {
   old_fits = s.old_fits;
   new_fits = s.new_fits;
   order = s.order;
+  begins = s.begins;
   told = λ none. keeps (context.stated_as s.new_single h.new_start (length (part_of Reversed h.body))) (context.written Forward s.old h.body) (s.told none);
 }
 

@@ -8,11 +8,12 @@ use Rattle.stamp.specs.declared.Stamp.{Stamp}
 use Rattle.stamp.specs.declared.Stamp.TheVariants.{Unknown}
 use Rattle.patch_header.specs.Content.{content}
 use Rattle.patch_header.specs.GitHeaders.{action_of}
-use Rattle.patch_header.specs.GitRows.{lines_of, led_by, middle_of}
+use Rattle.patch_header.specs.GitRows.{lines_of, led_by, both_names}
 use Rattle.patch_header.specs.Region.{rows, first_some}
-use Rattle.patch_header.specs.Values.{unblanked, name_length, word_length, behind_name}
+use Rattle.patch_header.specs.Values.{unblanked, name_length, index_length, word_length, behind_name}
 use Rattle.header_record.specs.declared.Action.{Action}
 use Rattle.header_record.specs.declared.Action.TheVariants.{Plain, New, Deleted, Rename, Copy}
+use Rattle.patch_header.specs.declared.bare.Pair.{Pair}
 use Rattle.patch_header.specs.declared.openings.Stop.{Stop}
 use Rattle.patch_header.specs.declared.openings.Stop.TheVariants.{Opening, Binary, Bare}
 use Rattle.patch_header.specs.declared.ways.Ways.{Ways}
@@ -30,10 +31,14 @@ last_behind mark ls = first_some (behind mark) (reverse ls)
 abbrev pub bytes_before : ℕ → List ℕ → Option (List ℕ)
 bytes_before n bytes = if n == 0 then None else Some (take n bytes)
 
--- the name, the word and the stamp behind blanks
+-- the name, that of an `Index:` line, the word and the stamp behind blanks
 abbrev pub name_said : Option (List ℕ) → Option (List ℕ)
 name_said None = None
 name_said (Some bytes) = bytes_before (name_length (unblanked bytes)) (unblanked bytes)
+
+abbrev pub index_named : Option (List ℕ) → Option (List ℕ)
+index_named None = None
+index_named (Some bytes) = bytes_before (index_length (unblanked bytes)) (unblanked bytes)
 
 abbrev pub word_said : Option (List ℕ) → Option (List ℕ)
 word_said None = None
@@ -80,22 +85,22 @@ to_by Copy ls = whole_said (last_behind (codes "copy to ") ls)
 abbrev pub led_lines : Ways → Form → List (List ℕ) → List (List ℕ)
 led_lines ways form ls = lines_of (led_by ways form (rows 0 0 ls))
 
--- the names beside the middle of what stands in a git line
-abbrev pub old_beside : List ℕ → Option ℕ → Option (List ℕ)
-old_beside bytes None = None
-old_beside bytes (Some m) = bytes_before m bytes
+-- the names of what stands in a git line
+abbrev pub old_of : List ℕ → Option Pair → Option (List ℕ)
+old_of bytes None = None
+old_of bytes (Some p) = bytes_before p.old bytes
 
-abbrev pub new_beside : List ℕ → Option ℕ → Option (List ℕ)
-new_beside bytes None = None
-new_beside bytes (Some m) = bytes_before m (drop (m + 1) bytes)
+abbrev pub new_of : List ℕ → Option Pair → Option (List ℕ)
+new_of bytes None = None
+new_of bytes (Some p) = bytes_before p.new (drop p.start bytes)
 
 abbrev pub old_half : Option (List ℕ) → Option (List ℕ)
 old_half None = None
-old_half (Some bytes) = old_beside bytes (middle_of bytes)
+old_half (Some bytes) = old_of bytes (both_names bytes)
 
 abbrev pub new_half : Option (List ℕ) → Option (List ℕ)
 new_half None = None
-new_half (Some bytes) = new_beside bytes (middle_of bytes)
+new_half (Some bytes) = new_of bytes (both_names bytes)
 
 -- the header of an opening behind these lines, with the extended lines that lead it; line numbers set aside
 abbrev pub header_behind : Form → List (List ℕ) → List (List ℕ) → PlainHeader
@@ -105,7 +110,7 @@ header_behind form ls led = record {
   names_line = 0;
   old_name = name_said (old_line form ls);
   new_name = name_said (new_line form ls);
-  index = name_said (last_behind (codes "Index:") ls);
+  index = index_named (last_behind (codes "Index:") ls);
   prereq = word_said (last_behind (codes "Prereq:") ls);
   old_stamp = stamp_said (old_line form ls);
   new_stamp = stamp_said (new_line form ls);
@@ -123,7 +128,7 @@ bare_header ls git extended = record {
   names_line = 0;
   old_name = old_half (behind (codes "diff --git ") git);
   new_name = new_half (behind (codes "diff --git ") git);
-  index = name_said (last_behind (codes "Index:") ls);
+  index = index_named (last_behind (codes "Index:") ls);
   prereq = word_said (last_behind (codes "Prereq:") ls);
   old_stamp = Unknown;
   new_stamp = Unknown;

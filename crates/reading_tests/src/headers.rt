@@ -13,7 +13,9 @@ const ROWS: &[&str] = &[
     // A tab ends a name that holds a space.
     "-=diff --git a/my file b/my file\nindex 1f2..3e4 100644\n--- a/my file\t2002-02-21 23:30:39.942229878 -0800\n+++ b/my file\t2002-02-21 23:30:50 -0800\n@@ -1 +1 @@\n-a\n+b\n=Unified 5 3; [a/my file] [b/my file] [] []; Instant(1014363039) Instant(1014363050); Plain false [] []",
     // The last line of each kind counts.
-    "-=--- first\n+++ first\nIndex: first\nPrereq: first\n--- f Thu Feb 21 23:30:39 2002\nPrereq:\t 1.2\rx\nIndex:g\n+++  \t h\nIndex: i j\n@@ -1,2 +1 @@ x\n=Unified 10 5; [f] [h] [i] [1.2]; Instant(1014334239) Unknown; Plain false [] []",
+    "-=--- first\n+++ first\nIndex: first\nPrereq: first\n--- f Thu Feb 21 23:30:39 2002\nPrereq:\t 1.2\rx\nIndex:g\n+++  \t h\nIndex: i j\n@@ -1,2 +1 @@ x\n=Unified 10 5; [f] [h] [i j] [1.2]; Instant(1014334239) Unknown; Plain false [] []",
+    // A name in quotes ends with them, and a stamp may follow; one whose quotes end nowhere is none.
+    "-=Index: \"i \\\" j\" k\n--- \"a\\303\\266 b\"\t1970-01-01 00:00:00 +0000\n+++ \"g\\n\n@@ -1 +1 @@\n=Unified 4 2; [\"a\\303\\266 b\"] [] [\"i \\\" j\"] []; Instant(0) Unknown; Plain false [] []",
     // A last line with an empty name tells none.
     "-=--- f\n--- \t\nIndex: f\nIndex:\nPrereq: \r\n@@ -1 +1 @@\n=Unified 6 6; [] [] [] []; Unknown Unknown; Plain false [] []",
     "-=+++ u\n*** old\tThu Feb 21 23:30:39 2002\n--- new\t1970-01-01 00:00:00 +0000\n***************\n*** 1,3 ****\n  a\n=Context 4 2; [old] [new] [] []; Instant(1014334239) Instant(0); Plain false [] []",
@@ -39,6 +41,8 @@ const ROWS: &[&str] = &[
     "-==End",
     // An empty file that is new has no hunk; its names stand in its git line.
     "git=diff --git a/e b/e\nnew file mode 100644\nindex 0000000..e69de29\n=Unified 1 1; [a/e] [b/e] [] []; Unknown Unknown; New true [] []",
+    "git=diff --git f f\nnew file mode 100644\n=Unified 1 1; [f] [f] [] []; Unknown Unknown; New true [] []",
+    "git=diff --git a/x \"b/e f\" \ndeleted file mode 100644\n=Unified 1 1; [a/x] [\"b/e f\"] [] []; Unknown Unknown; Deleted true [] []",
     // Halves that differ behind their first slash are no names.
     "git=x\ndiff --git a/x b/y\nsimilarity index 100%\nrename from x\nrename to y\n=Unified 2 2; [] [] [] []; Unknown Unknown; Rename true [x] [y]",
     "git=diff --git a/x b/y\nsimilarity index 90%\nrename from x\nrename to y\n--- a/x\n+++ b/y\n@@ -1 +1 @@\n-a\n+b\n=Unified 7 5; [a/x] [b/y] [] []; Unknown Unknown; Rename false [x] [y]",

@@ -2,11 +2,11 @@ use Rattle.std.proofs.Common.{◌≡◌, ◌+◌, length, drop, slice_range, sym
 use Rattle.std.specs.Prelude.{bytes_eq}
 use Rattle.bstr.specs.Find.{is_byte, IsFirstByte}
 use Rattle.patch_header.proofs.Bytes.{is_position}
-use Rattle.patch_header.proofs.BareLemmas.{alike-none, alike-one, alike-both, rest-all}
+use Rattle.patch_header.proofs.BareLemmas.{alike-one, alike-both, rest-all}
 use Rattle.patch_header.proofs.bare.are_alike.Goals as goal
 
-pub returns-in-None : goal.returns-in-None
-returns-in-None c = sym (alike-none c.args.old.now c.args.new.now (sym (is_position (is_byte 47) c.args.old.now c.find_byte.result c.find_byte.ensures) ∙ c.in-None.is))
+pub equals_without-requires : goal.equals_without-requires
+equals_without-requires c = sym (is_position (is_byte 47) c.args.old.now c.find_byte.result c.find_byte.ensures) ∙ c.in-None.is
 
 pub returns-in-None-find_byte : goal.returns-in-None-find_byte
 returns-in-None-find_byte c = sym (alike-one c.args.old.now c.args.new.now c.in-Some.k

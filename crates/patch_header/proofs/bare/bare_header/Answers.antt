@@ -2,7 +2,7 @@ use Rattle.std.proofs.Common.{refl}
 use Rattle.patch_header.proofs.bare.bare_header.Goals as goal
 
 pub returns-clause-pieces : goal.returns-clause-pieces
-returns-clause-pieces c = record { old_name = c.old_half.ensures.piece; new_name = c.new_half.ensures.piece; index = c.name_in.ensures.piece; prereq = c.word_in.ensures.piece; from = c.from_in.ensures.piece; to = c.to_in.ensures.piece }
+returns-clause-pieces c = record { old_name = c.old_half.ensures.piece; new_name = c.new_half.ensures.piece; index = c.index_in.ensures.piece; prereq = c.word_in.ensures.piece; from = c.from_in.ensures.piece; to = c.to_in.ensures.piece }
 
 pub to_in-requires-clause-lies : goal.to_in-requires-clause-lies
 to_in-requires-clause-lies c = c.requires.lines
@@ -22,11 +22,11 @@ word_in-requires-clause-lies c = c.requires.seen.prereq
 pub word_in-requires-clause-short : goal.word_in-requires-clause-short
 word_in-requires-clause-short c = c.requires.short
 
-pub name_in-requires-clause-short : goal.name_in-requires-clause-short
-name_in-requires-clause-short c = c.requires.short
+pub index_in-requires-clause-short : goal.index_in-requires-clause-short
+index_in-requires-clause-short c = c.requires.short
 
-pub name_in-requires-clause-lies : goal.name_in-requires-clause-lies
-name_in-requires-clause-lies c = c.requires.seen.index
+pub index_in-requires-clause-lies : goal.index_in-requires-clause-lies
+index_in-requires-clause-lies c = c.requires.seen.index
 
 pub new_half-requires-clause-short : goal.new_half-requires-clause-short
 new_half-requires-clause-short c = c.requires.short

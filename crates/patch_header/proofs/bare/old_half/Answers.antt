@@ -4,15 +4,15 @@ use Rattle.patch_header.specs.Region.{LiesIn}
 use Rattle.patch_header.proofs.Pieces.{piece-at, old-fits}
 use Rattle.patch_header.proofs.bare.old_half.Goals as goal
 
-pub returns-in-Some-middle_of-clause-piece : goal.returns-in-Some-middle_of-clause-piece
-returns-in-Some-middle_of-clause-piece c =
+pub returns-in-Some-both_names-clause-piece : goal.returns-in-Some-both_names-clause-piece
+returns-in-Some-both_names-clause-piece c =
     let lies = subst (λ o. IfSome o (LiesIn c.args.text.now)) c.in-Some.is c.requires.lies in
-    piece-at c.args.text.now _ _ _ c.span_at.ensures (old-fits c.args.text.now c.in-Some.tail c.in-Some-middle_of.middle lies c.in-Some-middle_of.ensures.odd)
+    piece-at c.args.text.now _ _ _ c.span_at.ensures (old-fits c.args.text.now c.in-Some.tail c.in-Some-both_names.pair lies c.in-Some-both_names.ensures.within)
 
 pub span_at-requires : goal.span_at-requires
 span_at-requires c =
     let lies = subst (λ o. IfSome o (LiesIn c.args.text.now)) c.in-Some.is c.requires.lies in
-    omega (arith, c.requires.short, old-fits c.args.text.now c.in-Some.tail c.in-Some-middle_of.middle lies c.in-Some-middle_of.ensures.odd)
+    omega (arith, c.requires.short, old-fits c.args.text.now c.in-Some.tail c.in-Some-both_names.pair lies c.in-Some-both_names.ensures.within)
 
-pub slice_bounds-middle_of-count : goal.slice_bounds-middle_of-count
-slice_bounds-middle_of-count c = (subst (λ o. IfSome o (LiesIn c.args.text.now)) c.in-Some.is c.requires.lies).low
+pub slice_bounds-both_names-count : goal.slice_bounds-both_names-count
+slice_bounds-both_names-count c = (subst (λ o. IfSome o (LiesIn c.args.text.now)) c.in-Some.is c.requires.lies).low

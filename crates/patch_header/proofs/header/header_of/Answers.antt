@@ -7,8 +7,8 @@ name_in-old_name-requires-clause-lies c = c.old_tail-old.ensures.lies c.args.tex
 pub name_in-requires-clause-lies : goal.name_in-requires-clause-lies
 name_in-requires-clause-lies c = c.new_tail-new.ensures.lies c.args.text.now c.requires.lies
 
-pub name_in-requires-2-clause-lies : goal.name_in-requires-2-clause-lies
-name_in-requires-2-clause-lies c = c.requires.lies.index
+pub index_in-requires-clause-lies : goal.index_in-requires-clause-lies
+index_in-requires-clause-lies c = c.requires.lies.index
 
 pub word_in-requires-clause-lies : goal.word_in-requires-clause-lies
 word_in-requires-clause-lies c = c.requires.lies.prereq
@@ -26,7 +26,7 @@ pub to_in-requires-clause-lies : goal.to_in-requires-clause-lies
 to_in-requires-clause-lies c = c.requires.led
 
 pub returns-clause-pieces : goal.returns-clause-pieces
-returns-clause-pieces c = record { old_name = c.name_in-old_name.ensures.piece; new_name = c.name_in.ensures.piece; index = c.name_in-2.ensures.piece; prereq = c.word_in.ensures.piece; from = c.from_in.ensures.piece; to = c.to_in.ensures.piece }
+returns-clause-pieces c = record { old_name = c.name_in-old_name.ensures.piece; new_name = c.name_in.ensures.piece; index = c.index_in.ensures.piece; prereq = c.word_in.ensures.piece; from = c.from_in.ensures.piece; to = c.to_in.ensures.piece }
 
 pub to_in-requires-clause-short : goal.to_in-requires-clause-short
 to_in-requires-clause-short c = c.requires.short
@@ -37,8 +37,8 @@ from_in-requires-clause-short c = c.requires.short
 pub word_in-requires-clause-short : goal.word_in-requires-clause-short
 word_in-requires-clause-short c = c.requires.short
 
-pub name_in-requires-2-clause-short : goal.name_in-requires-2-clause-short
-name_in-requires-2-clause-short c = c.requires.short
+pub index_in-requires-clause-short : goal.index_in-requires-clause-short
+index_in-requires-clause-short c = c.requires.short
 
 pub name_in-requires-clause-short : goal.name_in-requires-clause-short
 name_in-requires-clause-short c = c.requires.short
