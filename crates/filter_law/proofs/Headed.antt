@@ -1,5 +1,5 @@
 -- What is written in front of the change of a file patch in any form, and how it is read.
-use Rattle.std.proofs.Common.{◌≡◌, ◌≢◌, ℕ, Bool, true, false, cond, not, eqb, ◌||◌, ◌&&◌, List, [], ◌∷◌, ◌++◌, Option, None, Some, refl, sym, ap, ◌∙◌}
+use Rattle.std.proofs.Common.{◌≡◌, ◌≢◌, ℕ, Bool, true, false, cond, not, eqb, ◌||◌, ◌&&◌, List, [], ◌∷◌, ◌++◌, length, Option, None, Some, refl, sym, ap, ◌∙◌, arith}
 use Rattle.std.specs.Prelude.{is_some, codes}
 use Rattle.std.specs.List.{list_any}
 use Rattle.std.specs.Option.{IfSome, option_map_or, option_or}
@@ -19,11 +19,14 @@ use Rattle.name_choice.specs.Better.{is_better}
 use Rattle.patch_set.specs.PlainName.{better_of, file_name, plain_name}
 use Rattle.flip_patch.specs.HeaderText.{header_text, index_line, name_lines, named_line, names_file, needs_index}
 use Rattle.flip_patch.specs.Marks.{shows_names}
-use Rattle.reading_law.specs.Said.{behind, header_said, name_said, new_line, old_line, stamp_said}
+use Rattle.reading_law.specs.Said.{behind, header_said, index_named, name_said, new_line, old_line, stamp_said}
 use Rattle.reading_law.proofs.Headed.{AreClean, HasHead, clean-heads, clean-if, joined-heads, minus-is, not-false, plus-is, stars-is, some-heads}
 use Rattle.reading_law.proofs.FlipHeaders.{Head, behind-is, head_lines, heads_if, index-index, index-joined, index-of, index-other, joined-if, last-three, minus-index, minus-minus, minus-plus, minus-stars, or-first, or-second, or-third, plus-index, plus-minus, plus-plus, prereq-none, same-header, shown, shown-no, shown-yes, stars-index, stars-minus, stars-stars, three, neither}
 use Rattle.reading_law.proofs.Lines.{Kind, Minus, Plus, Stars, Index, content-closed, line_of, mark}
-use Rattle.reading_law.proofs.Names.{NoTab, spaced, tab-clean, tab_if, text_or_none}
+use Rattle.std.proofs.lemmas.Bool.{eqb-true}
+use Rattle.std.proofs.lemmas.Bool.Decides.{nat_tests}
+use Rattle.patch_header.specs.Values.{is_blank}
+use Rattle.reading_law.proofs.Names.{NoTab, blanks-zero, spaced, tab-clean, tab_if, text_or_none}
 use Rattle.reading_law.proofs.Region.{IsShown}
 use Rattle.reading_law.proofs.Shown.{CleanIn, opt_line}
 use Rattle.filter_law.specs.ReadAgain.{IsGivenBack, begins_with_space, header_again, index_said, name_if, stamp_if}
@@ -61,9 +64,9 @@ line-behind name =
     let whole : index_line name ≡ line_of Index (name ++ tab_if name) = index-joined true name ∙ joined-if Index (Some (name ++ tab_if name)) in
     ap (λ (x : List ℕ). after (codes "Index:") (content x)) whole ∙ ap (after (codes "Index:")) (content-closed (mark Index ++ (name ++ tab_if name)))
 
-index-again : (v : Bool) (name : List ℕ) → name_said (shown (codes "Index:") Index (index-of v name)) ≡ (let none : Option (List ℕ) = None in cond v (name_said (behind (codes "Index:") (index_line name))) none)
+index-again : (v : Bool) (name : List ℕ) → index_named (shown (codes "Index:") Index (index-of v name)) ≡ (let none : Option (List ℕ) = None in cond v (index_named (behind (codes "Index:") (index_line name))) none)
 index-again false name = refl
-index-again true name = ap name_said (sym (line-behind name))
+index-again true name = ap index_named (sym (line-behind name))
 
 headed : (text : List ℕ) (form : Form) (h : Header) (k l : Kind) (old new : Option (List ℕ)) → Wanted text form h k l old new → NoFeed (plain_name (header_of text h)) → HeadedIn text form h
 headed text form h k l old new n clean =
@@ -172,8 +175,8 @@ headed-in ways text h s form = headed-by text h (source ways text h s) form
 
 -- ---- the one name
 
-given-back : (name : List ℕ) → IsGivenBack name → text_or_none (name_said (behind (codes "Index:") (index_line name))) ≡ name
-given-back name g = ap (λ o. text_or_none (name_said o)) (line-behind name ∙ index-index (name ++ tab_if name)) ∙ by name g.front g.tab
+given-back : (name : List ℕ) → IsGivenBack name → text_or_none (index_named (behind (codes "Index:") (index_line name))) ≡ name
+given-back name g = ap (λ o. text_or_none (index_named o)) (line-behind name ∙ index-index (name ++ tab_if name)) ∙ by name g
   where
     no-tabs : (bs : List ℕ) → list_any (λ b. eqb b 9) bs ≡ false → NoTab bs
     no-tabs [] e = tt
@@ -182,9 +185,15 @@ given-back name g = ap (λ o. text_or_none (name_said o)) (line-behind name ∙ 
     none : (v w : Bool) → v ≡ false → w ≡ false → (v || w) ≡ false
     none v w e f = rw (e, f) refl
 
-    by : (bs : List ℕ) → begins_with_space bs ≡ false → list_any (λ b. eqb b 9) bs ≡ false → text_or_none (name_said (Some (32 ∷ (bs ++ tab_if bs)))) ≡ bs
-    by [] e f = refl
-    by (c ∷ cs) e f = let tabs = or_parts (eqb c 9) (list_any (λ b. eqb b 9) cs) f in ap text_or_none (spaced c cs (none (eqb c 32) (eqb c 9) e tabs.0) (no-tabs (c ∷ cs) f))
+    front : (c : ℕ) (cs : List ℕ) → IsGivenBack (c ∷ cs) → (v : Bool) → eqb c 34 ≡ v → is_blank c ≡ false
+    front c cs h true q = ap is_blank (eqb-true c 34 q)
+    front c cs h false q = none (eqb c 32) (eqb c 9) h.front (or_parts (eqb c 9) (list_any (λ b. eqb b 9) cs) (h.tab q)).0
+
+    by : (bs : List ℕ) → IsGivenBack bs → text_or_none (index_named (Some (32 ∷ (bs ++ tab_if bs)))) ≡ bs
+    by [] h = refl
+    by (c ∷ cs) h =
+        let some : eqb (length (c ∷ cs)) 0 ≡ false = grind (arith, nat_tests) in
+        ap text_or_none (spaced (c ∷ cs) (record { front = blanks-zero c cs (front c cs h (eqb c 34) refl); bare = λ q. no-tabs (c ∷ cs) (h.tab q); quoted = h.quoted }) some)
 
 -- where one of two names is there, the better one is one of them, whatever else is
 better-first : (a b c d : Option (List ℕ)) → (is_some a || is_some b) ≡ true → option_map_or (λ (name : List ℕ). name) (option_or (better_of a b) c) [] ≡ option_map_or (λ (name : List ℕ). name) (option_or (better_of a b) d) []
@@ -215,7 +224,7 @@ module _ (form : Form) (hd : PlainHeader) (given : IsGivenBack (plain_name hd)) 
   by-index : needs_index form hd ≡ true → file_name (name_if form hd.old_name) ≡ None → file_name (name_if form hd.new_name) ≡ None → plain_name (header_again form hd) ≡ plain_name hd
   by-index need p q =
       one-none (name_if form hd.old_name) (name_if form hd.new_name) (index_said form hd) p q
-      ∙ ap text_or_none (if-true (needs_index form hd) (name_said (behind (codes "Index:") (index_line (plain_name hd)))) need)
+      ∙ ap text_or_none (if-true (needs_index form hd) (index_named (behind (codes "Index:") (index_line (plain_name hd)))) need)
       ∙ given-back (plain_name hd) given
 
   by-names : (v w : Bool) → shows_names form ≡ v → names_file hd ≡ w → plain_name (header_again form hd) ≡ plain_name hd

@@ -108,6 +108,7 @@ context-weaken least lower own h le s = let far : least ≤ h.old_start = s.orde
   drops = s.drops;
   old_fits = s.old_fits;
   new_fits = s.new_fits;
+  begins = s.begins;
   order = omega arith;
   told = s.told;
 }

@@ -16,7 +16,7 @@ use Rattle.patch_header.specs.GitHeaders.{action_of}
 use Rattle.patch_header.specs.GitRows.{led_by, lines_of}
 use Rattle.patch_header.specs.Region.{Row, first_some, new_tail, old_tail, rows}
 use Rattle.patch_header.specs.Steps.{header_with}
-use Rattle.patch_header.specs.Values.{blanks, name_in, name_length, stamp_in, unblanked}
+use Rattle.patch_header.specs.Values.{bare_length, first, index_length, name_in, name_length, stamp_in, unblanked}
 use Rattle.header_record.specs.declared.Action.{Action}
 use Rattle.header_record.specs.declared.Action.TheVariants as actions
 use Rattle.header_record.specs.declared.Header.{Header}
@@ -25,14 +25,14 @@ use Rattle.file_patch.specs.Absent.{is_null}
 use Rattle.file_patch.specs.PlainPatch.{PlainHeader, bytes_in, header_of}
 use Rattle.name_choice.specs.Better.{is_better}
 use Rattle.patch_set.specs.PlainName.{better_of, file_name, plain_name}
-use Rattle.reading_law.specs.Said.{behind, last_behind, name_said, to_by, whole_said}
+use Rattle.reading_law.specs.Said.{behind, bytes_before, index_named, last_behind, name_said, to_by, whole_said}
 use Rattle.reading_law.proofs.HeaderLines.{all-reverse, to-said}
 use Rattle.reading_law.proofs.LedLines.{led-all}
 use Rattle.reading_law.proofs.Places.{StandsAt}
 use Rattle.reading_law.proofs.Lines.{content-closed}
-use Rattle.reading_law.proofs.Names.{NoTab, clean-said, name-before, take-passing, text_or_none}
+use Rattle.reading_law.proofs.Names.{GivesBack, NoTab, bare-before, clean-index, clean-said, front-gives, index-before, text_or_none}
 use Rattle.reading_law.proofs.Region.{IsShown}
-use Rattle.reading_law.proofs.Shown.{AreRows, CleanIn, IsRow, Shows, blanks-none, clean-behind, line-clean, line-parts, name-shows, not-blank, region-rows}
+use Rattle.reading_law.proofs.Shown.{AreRows, CleanIn, IsRow, Shows, blanks-none, clean-behind, index-shows, line-clean, line-parts, name-shows, not-blank, region-rows}
 use Rattle.filter_law.specs.ReadAgain.{IsGivenBack}
 
 -- ---- what holds of all names holds of the one
@@ -72,13 +72,17 @@ holds-name P h none a b c d =
 
 -- ---- without line feeds
 
+clean-holds : (o : Option (List ℕ)) → NoFeed (text_or_none o) → Holds NoFeed o
+clean-holds None h = tt
+clean-holds (Some x) h = h
+
 said-clean : (o : Option (List ℕ)) → CleanIn o → Holds NoFeed (name_said o)
 said-clean None c = tt
-said-clean (Some bs) c = by (name_said (Some bs)) (clean-said bs c)
-  where
-    by : (o : Option (List ℕ)) → NoFeed (text_or_none o) → Holds NoFeed o
-    by None h = tt
-    by (Some x) h = h
+said-clean (Some bs) c = clean-holds (name_said (Some bs)) (clean-said bs c)
+
+index-clean : (o : Option (List ℕ)) → CleanIn o → Holds NoFeed (index_named o)
+index-clean None c = tt
+index-clean (Some bs) c = clean-holds (index_named (Some bs)) (clean-index bs c)
 
 behind-clean : (m line : List ℕ) → IsLine line → Holds NoFeed (behind m line)
 behind-clean m line is = by (after m (content line)) refl
@@ -120,12 +124,9 @@ to-clean actions.Copy ls all = whole-clean (last_behind (codes "copy to ") ls) (
 
 -- ---- given back by an `Index:` line
 
-front-given : (n : ℕ) (u : List ℕ) → blanks u ≡ 0 → n ≤ position_or_len (λ b. eqb b 9) u → IsGivenBack (take n u)
-front-given zero u e low = record { front = refl; tab = refl }
-front-given (suc n) [] e low = record { front = refl; tab = refl }
-front-given (suc n) (c ∷ cs) e low =
-    let plain = or_parts (eqb c 32) (eqb c 9) (not-blank c cs e) in
-    record { front = plain.0; tab = no-tabs (take (suc n) (c ∷ cs)) (take-passing (λ b. not (eqb b 9)) (suc n) (c ∷ cs) low) }
+given-of : (name : List ℕ) → GivesBack name → IsGivenBack name
+given-of [] g = record { front = refl; tab = λ q. refl; quoted = λ q. absurd cc }
+given-of (c ∷ cs) g = record { front = (or_parts (eqb c 32) (eqb c 9) (not-blank c cs g.front)).0; tab = λ q. no-tabs (c ∷ cs) (g.bare q); quoted = g.quoted }
   where
     turn : (v w : Bool) → not v ≡ true → w ≡ false → (v || w) ≡ false
     turn true w e f = absurd cc
@@ -135,13 +136,21 @@ front-given (suc n) (c ∷ cs) e low =
     no-tabs [] all = refl
     no-tabs (b ∷ bs) all = turn (eqb b 9) (list_any (λ x. eqb x 9) bs) all.0 (no-tabs bs all.1)
 
+-- so many bytes behind blanks, which are given back
+front-given : (n : ℕ) (bs : List ℕ) → GivesBack (take n (unblanked bs)) → Holds IsGivenBack (bytes_before n (unblanked bs))
+front-given n bs g = by (eqb n 0)
+  where
+    by : (v : Bool) → Holds IsGivenBack (let none : Option (List ℕ) = None in cond v none (Some (take n (unblanked bs))))
+    by true = tt
+    by false = given-of (take n (unblanked bs)) g
+
 said-given : (o : Option (List ℕ)) → Holds IsGivenBack (name_said o)
 said-given None = tt
-said-given (Some bs) = by (eqb (name_length (unblanked bs)) 0)
-  where
-    by : (v : Bool) → Holds IsGivenBack (let none : Option (List ℕ) = None in cond v none (Some (take (name_length (unblanked bs)) (unblanked bs))))
-    by true = tt
-    by false = front-given (name_length (unblanked bs)) (unblanked bs) (blanks-none bs) (name-before (unblanked bs))
+said-given (Some bs) = front-given (name_length (unblanked bs)) bs (front-gives (bare_length (unblanked bs)) (unblanked bs) (blanks-none bs) (bare-before (unblanked bs)))
+
+index-given : (o : Option (List ℕ)) → Holds IsGivenBack (index_named o)
+index-given None = tt
+index-given (Some bs) = front-given (index_length (unblanked bs)) bs (front-gives (first (λ b. eqb b 9) (unblanked bs)) (unblanked bs) (blanks-none bs) (index-before (unblanked bs)))
 
 -- ---- what a header that was read says
 
@@ -184,7 +193,7 @@ module _ (ways : Ways) (text : List ℕ) (place number : ℕ) (rs : List Row) (a
   source-of form =
       let os = old-shows form in
       let ns = new-shows form in
-      let x = name-shows text (codes "Index:") rs all in
+      let x = index-shows text (codes "Index:") rs all in
       let gs = led_by ways form rs in
       let led = led-all (IsRow text) ways form rs all in
       let to = to-clean (action_of (lines_of gs)) (lines_of gs) (lines-all text gs led) in
@@ -197,12 +206,12 @@ module _ (ways : Ways) (text : List ℕ) (place number : ℕ) (rs : List Row) (a
             (subst (Holds NoFeed) (sym os.1.name) (said-clean os.0 os.1.clean))
             (subst (Holds NoFeed) (sym ns.1.name) (said-clean ns.0 ns.1.clean))
             (subst (Holds NoFeed) (sym (to-said text gs (stand-all text gs led))) to)
-            (subst (Holds NoFeed) (sym x.1.name) (said-clean x.0 x.1.clean));
-        given = λ given. holds-name IsGivenBack (header_of text (made form)) (record { front = refl; tab = refl })
+            (subst (Holds NoFeed) (sym x.1.name) (index-clean x.0 x.1.clean));
+        given = λ given. holds-name IsGivenBack (header_of text (made form)) (record { front = refl; tab = λ q. refl; quoted = λ q. absurd cc })
             (subst (Holds IsGivenBack) (sym os.1.name) (said-given os.0))
             (subst (Holds IsGivenBack) (sym ns.1.name) (said-given ns.0))
             given
-            (subst (Holds IsGivenBack) (sym x.1.name) (said-given x.0));
+            (subst (Holds IsGivenBack) (sym x.1.name) (index-given x.0));
       }
 
 pub source : (ways : Ways) (text : List ℕ) (h : Header) → IsShown ways text h → Source text h

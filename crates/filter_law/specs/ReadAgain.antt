@@ -1,5 +1,5 @@
 -- The file patches of which something is written in another form, as they are read again.
-use Rattle.std.specs.Prelude.{◌≡◌, ℕ, ◌+◌, ◌==◌, Bool, false, List, [], ◌∷◌, ◌++◌, codes, length, map, reverse, Option, None, if◌then◌else◌}
+use Rattle.std.specs.Prelude.{◌≡◌, ℕ, ◌+◌, ◌==◌, Bool, true, false, List, [], ◌∷◌, ◌++◌, codes, length, map, reverse, Option, None, Some, if◌then◌else◌}
 use Rattle.std.specs.List.{flat_map, list_any}
 use Rattle.hunk_core.specs.declared.Form.{Form}
 use Rattle.hunk_core.specs.declared.Form.TheVariants.{Unified, Context, Normal, Ed}
@@ -9,13 +9,14 @@ use Rattle.context_form.specs.Canonical as context
 use Rattle.normal_form.specs.Grammar.{on_side}
 use Rattle.stamp.specs.declared.Stamp.{Stamp}
 use Rattle.stamp.specs.declared.Stamp.TheVariants.{Unknown}
+use Rattle.header_record.specs.Quoted.{begins_quoted, quoted_length}
 use Rattle.header_record.specs.declared.Action.TheVariants.{Plain}
 use Rattle.file_patch.specs.PlainPatch.{PlainChange, PlainHeader, PlainPatch, hunks, script}
 use Rattle.patch_set.specs.PlainName.{plain_name}
 use Rattle.patch_set.specs.SetView.{SetView, plain_patches}
 use Rattle.flip_patch.specs.HeaderText.{index_line, needs_index}
 use Rattle.flip_patch.specs.Marks.{shows_names}
-use Rattle.reading_law.specs.Said.{behind, name_said}
+use Rattle.reading_law.specs.Said.{behind, index_named}
 use Rattle.tool_words.specs.PlainJobs.{PlainFilterJob}
 use Rattle.format_convert.specs.Blocks.{Block, blocks_in, changes}
 use Rattle.format_convert.specs.Commands.{new_first, range_start}
@@ -26,7 +27,7 @@ use Rattle.format_convert.specs.Converted.{is_written}
 
 -- what is read of the `Index:` line, where one is written
 abbrev pub index_said : Form → PlainHeader → Option (List ℕ)
-index_said form h = if needs_index form h then name_said (behind (codes "Index:") (index_line (plain_name h))) else None
+index_said form h = if needs_index form h then index_named (behind (codes "Index:") (index_line (plain_name h))) else None
 
 -- a name and a stamp, in a form that has lines for them
 abbrev pub name_if : Form → Option (List ℕ) → Option (List ℕ)
@@ -53,14 +54,15 @@ header_again form h = record {
   to = None;
 }
 
--- a name that an `Index:` line gives back: no space comes first, and it holds no tab
+-- a name that an `Index:` line gives back: no space comes first, and it holds no tab, or all of it is in quotes
 abbrev pub begins_with_space : List ℕ → Bool
 begins_with_space [] = false
 begins_with_space (b ∷ name) = b == 32
 
 pub record IsGivenBack (name : List ℕ) : Type 0 where
   pub front : begins_with_space name ≡ false
-  pub tab : list_any (λ b. b == 9) name ≡ false
+  pub tab : begins_quoted name ≡ false → list_any (λ b. b == 9) name ≡ false
+  pub quoted : begins_quoted name ≡ true → quoted_length name ≡ Some (length name)
 
 -- ---- the change
 

@@ -20,9 +20,9 @@ ghost use Rattle.filter_law.specs.ReadAgain.{IsGivenBack, change_again, header_a
 
 /// What is written of a set in a form that isn't refused reads, in all ways that admit the form, as the file patches of which a
 /// hunk is kept and, as commands, of which a line is changed; line numbers aside. Each has the one name that it had, which an
-/// `Index:` line gives back but for a name of a rename that begins with a space or holds a tab, and the changes that it had:
-/// which lines are replaced by which. In the unified form its hunks are the same, and in the context form they are up to the order of
-/// dropped and added lines between two kept ones.
+/// `Index:` line gives back but for a name of a rename that begins with a space, holds a tab or has quotes that are none of C, and
+/// the changes that it had: which lines are replaced by which. In the unified form its hunks are the same, and in the context form
+/// they are up to the order of dropped and added lines between two kept ones.
 pub fn format_reads()
     ensures read { (form : Form) → (j : PlainFilterJob) → (v : SetView) → (ways : Ways) → IsWhole v → admits ways.only form ≡ true → refusal form (left_patches j (plain_patches v)) ≡ None → read_unnumbered ways (converted form j v) ≡ Ok (patches_again form j v) }
     ensures names { (form : Form) → (v : SetView) → IsWhole v → AllByRecursion (λ p. p.header.bare ≡ false → IfSome p.header.to IsGivenBack → plain_name (header_again form p.header) ≡ plain_name p.header) (plain_patches v) }

@@ -19,6 +19,7 @@ use Rattle.run_answers.specs.Input as input
 use Rattle.run_answers.specs.declared.fault.InputFault.{InputFault}
 use Rattle.patch_text.specs.Patches.{patches_of}
 use Rattle.patch_set.specs.Asked.{ways_of}
+use Rattle.clean_text.specs.Reading.{clean_of}
 use Rattle.patch_set.specs.Refusals.{refusal}
 use Rattle.patch_set.specs.SetView.{SetView, plain_patches, hunks_in, IsRead, IsFresh}
 use Rattle.patch_run.specs.Run.{Run, set_run}
@@ -49,7 +50,7 @@ pub carried-match : (o : PlainOptions) (given : List ℕ) (v : SetView) → IsRe
     → on_job (Ok (patch o)) f left ≡ carried_out (length v.patches) (set_run o v f)
 carried-match o given v read f left reads =
     ap (λ (x : Result (List ℕ) InputFault). on_input o x f) reads.given
-    ∙ ap (λ x. on_refusal o x reads.bytes f) reads.free
+    ∙ ap (λ x. on_refusal o x (clean_of o reads.bytes) f) reads.free
     ∙ ap (λ (t : List ℕ). on_patches o t (patches_of (ways_of o) t) f) (sym reads.whole)
     ∙ ap (λ (ps : Result (List PlainPatch) Fault). on_patches o v.text ps f) reads.patches
     ∙ ap (λ (n : ℕ). carried_out n (run_for o v.text (plain_patches v) f)) (length-map v.patches (patch_of v.text))
@@ -63,11 +64,11 @@ can_apply o text v lawful read fresh = record {
 }
 
 -- the patch text and the set that is read from it are what the options ask for
-pub asked_so : (o : PlainOptions) (text : List ℕ) (v : SetView) (t : TreeView) (s : SourceView) → IsLawful o → input.IsAnswer (Ok text) o.input o.dir t s
-    → IsRead o text v → IsFresh v → refusal o text ≡ None → (a : ScratchView) (c : SinkView) → IsAsked o v (world t a s c)
-asked_so o text v t s lawful answer read fresh free a c = record {
-  can = can_apply o text v lawful read fresh;
-  reads = λ f left told. record { bytes = text; given = answer f left told; free = free; whole = read.text; patches = read.patches };
+pub asked_so : (o : PlainOptions) (bytes : List ℕ) (v : SetView) (t : TreeView) (s : SourceView) → IsLawful o → input.IsAnswer (Ok bytes) o.input o.dir t s
+    → IsRead o (clean_of o bytes) v → IsFresh v → refusal o (clean_of o bytes) ≡ None → (a : ScratchView) (c : SinkView) → IsAsked o v (world t a s c)
+asked_so o bytes v t s lawful answer read fresh free a c = record {
+  can = can_apply o (clean_of o bytes) v lawful read fresh;
+  reads = λ f left told. record { bytes = bytes; given = answer f left told; free = free; whole = read.text; patches = read.patches };
 }
 
 -- ---- early ends

@@ -16,9 +16,10 @@ ghost use Rattle.patch_cli.specs.Worlds.{world, is_standard, reads_source};
 ghost use Rattle.run_answers.specs.Moments.{Opens};
 ghost use Rattle.patch_cli.specs.Opening.{IsAsked, StopsEarly};
 
+use clean_text::read_clean;
 use outside::{Source, Tree};
 use patch_options::{Job, Options, read_words};
-use patch_set::{PatchSet, read_set};
+use patch_set::PatchSet;
 use run_answers::{Why, read_input, settle};
 use std::alloc::Global;
 
@@ -94,6 +95,6 @@ fn read_patches<T: Tree, I: Source>(
     ensures refused { IfErr result (λ why. (a : ScratchView) (c : SinkView) → StopsEarly why (Ok (patch (plain_options options.now))) (world (T.view tree.old) a (I.view source.old) c) (world (T.view tree.new) a (I.view source.new) c)) }
 {
     let text = read_input(alloc, &options.input, options.dir.as_ref(), tree, source)?;
-    let set = read_set(alloc, text, options)?;
+    let set = read_clean(alloc, text, options)?;
     Ok(set)
 }

@@ -4,7 +4,7 @@ use Rattle.clap.specs.Words.{Row, Text}
 use Rattle.std.specs.Borrow.{Bor}
 use Rattle.outside.specs.Files.{is_temp}
 use Rattle.outside.specs.Names.{given_form}
-use Rattle.patch_options.specs.Forms.{is_name, is_output, is_reject_file, is_prefix, is_directory, is_lasting_name, is_patch_file}
+use Rattle.patch_options.specs.Forms.{is_name, is_reject_file, is_prefix, is_directory, is_lasting_name, is_patch_file}
 use Rattle.patch_options.specs.Table.{value_of, text_of, has_form, is_no_file, reject_of, first_given, inputs_agree, switches_agree, values_agree, names_agree, outputs_agree, is_command}
 use Rattle.patch_options.specs.declared.options.WordFault.{WordFault}
 use Rattle.patch_options.specs.declared.options.WordFault.TheVariants.{Usage, Memory}
@@ -68,16 +68,6 @@ module _ (text sample : List ℕ) (is : sample ≡ text ++ codes "x") where
 
 -- ---- `-` in place of a name that is written
 
-pub output_dash : (value : Option Text) → is_no_file value ≡ true → has_form is_output value ≡ false
-unfolding is_output
-output_dash None is = sym is
-output_dash (Some text) is = rw is refl
-
-pub output_name : (value : Option Text) → is_no_file value ≡ false → has_form is_lasting_name value ≡ has_form is_output value
-unfolding is_output
-output_name None none = refl
-output_name (Some text) none = rw none refl
-
 pub reject_dash : (value : Option Text) → is_no_file value ≡ true → (None ≡ option_and_then reject_of value) × (has_form is_reject_file value ≡ true)
 unfolding is_reject_file
 reject_dash None is = (refl, refl)
@@ -92,9 +82,9 @@ reject_name (Some text) none = (rw none refl, rw none refl)
 -- ---- names that are written
 
 module _ (rows : List Row) (fault : WordFault) (given : Option Text) where
-  pub output_refused : given ≡ value_of rows (codes "output") → (fault ≡ Memory) ⊎ ((fault ≡ Usage) × (has_form is_output given ≡ false)) → (fault ≡ Memory) ⊎ ((fault ≡ Usage) × (outputs_agree rows ≡ false))
+  pub output_refused : given ≡ value_of rows (codes "output") → (fault ≡ Memory) ⊎ ((fault ≡ Usage) × (has_form is_lasting_name given ≡ false)) → (fault ≡ Memory) ⊎ ((fault ≡ Usage) × (outputs_agree rows ≡ false))
   unfolding outputs_agree
-  output_refused same = refused_as fault _ _ (λ none. no_left _ _ (has_value is_output _ same none))
+  output_refused same = refused_as fault _ _ (λ none. no_left _ _ (has_value is_lasting_name _ same none))
 
   pub reject_refused : given ≡ value_of rows (codes "reject-file") → (fault ≡ Memory) ⊎ ((fault ≡ Usage) × (has_form is_reject_file given ≡ false)) → (fault ≡ Memory) ⊎ ((fault ≡ Usage) × (outputs_agree rows ≡ false))
   unfolding outputs_agree
@@ -104,11 +94,11 @@ module _ (rows : List Row) (fault : WordFault) (given : Option Text) where
   unfolding outputs_agree
   prefix_refused same = refused_as fault _ _ (λ none. no_right _ _ (no_right _ _ (has_value is_prefix _ same none)))
 
-pub outputs_lawful : (rows : List Row) {output reject prefix : Option Text} → output ≡ value_of rows (codes "output") → has_form is_output output ≡ true → reject ≡ value_of rows (codes "reject-file") → has_form is_reject_file reject ≡ true
+pub outputs_lawful : (rows : List Row) {output reject prefix : Option Text} → output ≡ value_of rows (codes "output") → has_form is_lasting_name output ≡ true → reject ≡ value_of rows (codes "reject-file") → has_form is_reject_file reject ≡ true
     → prefix ≡ value_of rows (codes "prefix") → has_form is_prefix prefix ≡ true → outputs_agree rows ≡ true
 unfolding outputs_agree
 outputs_lawful rows same_output output same_reject reject same_prefix prefix =
-    all_yes _ _ (has_value is_output _ same_output output) (all_yes _ _ (has_value is_reject_file _ same_reject reject) (has_value is_prefix _ same_prefix prefix))
+    all_yes _ _ (has_value is_lasting_name _ same_output output) (all_yes _ _ (has_value is_reject_file _ same_reject reject) (has_value is_prefix _ same_prefix prefix))
 
 -- ---- all names
 

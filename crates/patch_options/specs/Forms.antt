@@ -115,10 +115,6 @@ is_name text = is_none (broken_given text)
 unfoldable pub is_lasting_name : List ℕ → Bool
 is_lasting_name text = is_name text && not (is_temp (given_form text))
 
--- such a name, but not `-`, which isn't standard output
-unfoldable pub is_output : List ℕ → Bool
-is_output text = not (bytes_eq text (codes "-")) && is_lasting_name text
-
 -- such a name, or `-` for no reject file
 unfoldable pub is_reject_file : List ℕ → Bool
 is_reject_file text = bytes_eq text (codes "-") || is_lasting_name text

@@ -8,7 +8,7 @@ input_words = operand (codes "file") ∷ operand (codes "patchfile") ∷ option 
     ∷ option 100 (codes "directory") ∷ option 105 (codes "input") ∷ switch 99 (codes "context") ∷ switch 101 (codes "ed")
     ∷ switch 110 (codes "normal") ∷ switch 117 (codes "unified") ∷ long_switch (codes "posix") ∷ long_switch (codes "skip-binary")
     ∷ switch 82 (codes "reverse") ∷ option 70 (codes "fuzz") ∷ switch 108 (codes "ignore-whitespace") ∷ switch 78 (codes "forward")
-    ∷ switch 116 (codes "batch") ∷ switch 102 (codes "force") ∷ []
+    ∷ switch 116 (codes "batch") ∷ switch 102 (codes "force") ∷ long_switch (codes "follow-symlinks") ∷ []
 
 -- what is written, and what is said; o 111, r 114, D 68, E 69, s 115
 abbrev pub output_words : List PlainWord
@@ -26,9 +26,9 @@ backup_words = switch 98 (codes "backup") ∷ long_switch (codes "backup-if-mism
 abbrev pub line_words : List PlainWord
 line_words = named (codes "plan") ∷ named (codes "buffer") ∷ []
 
--- what other programs pass, and what changes nothing; g 103
+-- what other programs pass, and what changes nothing; g 103, x 120
 abbrev pub other_words : List PlainWord
-other_words = option 103 (codes "get") ∷ long_switch (codes "binary") ∷ named (codes "quoting-style") ∷ named (codes "read-only") ∷ []
+other_words = option 103 (codes "get") ∷ option 120 (codes "debug") ∷ long_switch (codes "binary") ∷ named (codes "quoting-style") ∷ named (codes "read-only") ∷ []
 
 abbrev pub patch_table : List PlainWord
 patch_table = input_words ++ (output_words ++ (backup_words ++ (line_words ++ other_words)))

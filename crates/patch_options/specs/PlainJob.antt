@@ -37,8 +37,10 @@ pub record PlainOptions : Type 0 where
   pub reject_form : Option Form
   pub define : Option (List ℕ)
   pub posix : Bool
+  pub keep_returns : Bool
   pub skip_binary : Bool
   pub dry_run : Bool
+  pub follow_links : Bool
   pub silent : Bool
   pub verbose : Bool
   pub plan : PlanKind
@@ -69,8 +71,10 @@ plain_options o = record {
   reject_form = o.reject_form;
   define = option_map string_bytes o.define;
   posix = o.posix;
+  keep_returns = o.keep_returns;
   skip_binary = o.skip_binary;
   dry_run = o.dry_run;
+  follow_links = o.follow_links;
   silent = o.silent;
   verbose = o.verbose;
   plan = o.plan;

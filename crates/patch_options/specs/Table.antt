@@ -6,7 +6,7 @@ use Rattle.clap.specs.Words.{Row, Text, count_of, first_of}
 use Rattle.outside.specs.Names.{given_form, is_here}
 use Rattle.hunk_core.specs.declared.Form.{Form}
 use Rattle.hunk_core.specs.declared.Form.TheVariants.{Unified, Context, Normal, Ed}
-use Rattle.patch_options.specs.Forms.{number_of, buffer_of, plan_of, reject_form_of, is_suffix, is_backup_kind, is_get, is_quoting_style, is_read_only, sync_of, is_macro_name, is_prefix, is_lasting_name, is_output, is_reject_file, is_directory, is_patch_file}
+use Rattle.patch_options.specs.Forms.{number_of, buffer_of, plan_of, reject_form_of, is_suffix, is_backup_kind, is_get, is_quoting_style, is_read_only, sync_of, is_macro_name, is_prefix, is_lasting_name, is_reject_file, is_directory, is_patch_file}
 use Rattle.patch_options.specs.PlainJob.{PlainOptions}
 use Rattle.patch_options.specs.declared.options.PlanKind.TheVariants.{Auto}
 use Rattle.patch_options.specs.declared.options.SyncKind.{SyncKind}
@@ -77,7 +77,7 @@ inputs_agree input operand = not (is_some input && is_some operand) && (has_form
 
 -- the names that are written, and what stands before that of a backup, are lawful
 unfoldable pub outputs_agree : List Row → Bool
-outputs_agree rows = has_form is_output (value_of rows (codes "output"))
+outputs_agree rows = has_form is_lasting_name (value_of rows (codes "output"))
     && (has_form is_reject_file (value_of rows (codes "reject-file")) && has_form is_prefix (value_of rows (codes "prefix")))
 
 -- names are lawful
@@ -151,8 +151,10 @@ options_of rows = record {
   reject_form = option_and_then reject_form_of (value_of rows (codes "reject-format"));
   define = value_of rows (codes "ifdef");
   posix = is_used rows (codes "posix");
+  keep_returns = is_used rows (codes "binary");
   skip_binary = is_used rows (codes "skip-binary");
   dry_run = is_used rows (codes "dry-run");
+  follow_links = is_used rows (codes "follow-symlinks");
   silent = is_used rows (codes "silent") || is_used rows (codes "quiet");
   verbose = is_used rows (codes "verbose");
   plan = unwrap_or (option_and_then plan_of (value_of rows (codes "plan"))) Auto;

@@ -129,6 +129,13 @@ const INPUT: &[Word] = &[
         shown: "-f, --force",
         help: "try each file patch as it is",
     },
+    Word {
+        form: WordForm::Switch,
+        letter: None,
+        name: "follow-symlinks",
+        shown: "--follow-symlinks",
+        help: "read behind a symbolic link, and replace the link",
+    },
 ];
 
 const OUTPUT: &[Word] = &[
@@ -137,7 +144,7 @@ const OUTPUT: &[Word] = &[
         letter: Some('o'),
         name: "output",
         shown: "-o FILE, --output=FILE",
-        help: "write the result to FILE",
+        help: "write the result to FILE; - is standard output",
     },
     Word {
         form: WordForm::Value,
@@ -279,11 +286,18 @@ const OTHERS: &[Word] = &[
         help: "changes nothing: no file is got from elsewhere",
     },
     Word {
+        form: WordForm::Value,
+        letter: Some('x'),
+        name: "debug",
+        shown: "-x N, --debug=N",
+        help: "changes nothing",
+    },
+    Word {
         form: WordForm::Switch,
         letter: None,
         name: "binary",
         shown: "--binary",
-        help: "lines end with a line feed in any case",
+        help: "keep the carriage returns of a patch's lines",
     },
     Word {
         form: WordForm::Value,

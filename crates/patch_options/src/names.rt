@@ -2,7 +2,7 @@
 ghost use Rattle.std.specs.Prelude.{◌≡◌, ◌⊎◌, ◌++◌, codes, bytes_eq, true, false, IfOk, IfErr, string_bytes, option_map, option_and_then};
 ghost use Rattle.patch_options.specs.HasNames.{HasNames, HasOutputs};
 ghost use Rattle.outside.specs.Names.{given_form};
-ghost use Rattle.patch_options.specs.Forms.{is_name, is_lasting_name, is_output, is_reject_file, is_directory, is_patch_file, is_prefix};
+ghost use Rattle.patch_options.specs.Forms.{is_name, is_lasting_name, is_reject_file, is_directory, is_patch_file, is_prefix};
 ghost use Rattle.patch_options.specs.Simple.{rows_in};
 ghost use Rattle.patch_options.specs.Table.{text_of, has_form, names_agree, outputs_agree, inputs_agree, input_of, first_given, directory_of, reject_of, is_no_file};
 
@@ -69,7 +69,7 @@ fn read_outputs(alloc: Global, matches: &ArgMatches<'_>) -> Result<Outputs, Word
     ensures lawful { IfOk result (λ outputs. outputs_agree (rows_in matches.now) ≡ true) }
     ensures refused { IfErr result (λ fault. (fault ≡ WordFault.Memory) ⊎ ((fault ≡ WordFault.Usage) × (outputs_agree (rows_in matches.now) ≡ false))) }
 {
-    let output = match read_output(alloc, value_of(matches, "output")) {
+    let output = match read_lasting_name(alloc, value_of(matches, "output")) {
         Ok(output) => output,
         Err(fault) => return Err(fault),
     };
@@ -188,18 +188,6 @@ fn read_lasting_name(alloc: Global, text: Option<&str>) -> Result<Option<Name>, 
         Some(text) => Ok(Some(lasting_name_of(alloc, text)?)),
         None => Ok(None),
     }
-}
-
-/// The file that the result is written to. `-` isn't standard output.
-fn read_output(alloc: Global, text: Option<&str>) -> Result<Option<Name>, WordFault>
-    ensures name { IfOk result (λ given. given ≡ option_map given_form (text_of text.entry)) }
-    ensures lawful { IfOk result (λ given. has_form is_output (text_of text.entry) ≡ true) }
-    ensures refused { IfErr result (λ fault. (fault ≡ WordFault.Memory) ⊎ ((fault ≡ WordFault.Usage) × (has_form is_output (text_of text.entry) ≡ false))) }
-{
-    if is_no_file(text) {
-        return Err(WordFault::Usage);
-    }
-    read_lasting_name(alloc, text)
 }
 
 /// The reject file, none for `-`.

@@ -73,9 +73,13 @@ pub struct Options {
     pub define: Option<String>,
     /// As POSIX says it, where GNU patch does otherwise.
     pub posix: bool,
+    /// Lines of hunks keep the carriage returns in front of their line feeds, whatever the header of their file patch has.
+    pub keep_returns: bool,
     /// Binary changes are passed over, where a patch text that has one is refused without this.
     pub skip_binary: bool,
     pub dry_run: bool,
+    /// A file that is a link is read behind it. It is for who opens files, and changes nothing else.
+    pub follow_links: bool,
     pub silent: bool,
     pub verbose: bool,
     pub plan: PlanKind,

@@ -13,15 +13,15 @@ use Rattle.outside.specs.SinkView.{SinkView}
 use Rattle.outside.specs.Names.{is_absolute, is_kept, is_slash, components, kept, normal_form}
 use Rattle.outside.proofs.Components.{Free, slash_free}
 use Rattle.outside.proofs.Lawful.{begins, each_filter, filter_kept}
-use Rattle.line_list.specs.Completed.{completed}
 use Rattle.hunk_core.specs.Reading.{Fault}
 use Rattle.hunk_core.specs.declared.Verdict.TheVariants.{Untried}
 use Rattle.file_patch.specs.PlainPatch.{PlainPatch}
 use Rattle.patch_text.specs.Patches.{patches_of}
+use Rattle.clean_text.specs.Reading.{clean_of}
 use Rattle.patch_set.specs.Asked.{ways_of}
 use Rattle.patch_set.specs.declared.fault.SetFault.{SetFault}
 use Rattle.patch_set.specs.declared.fault.SetFault.TheVariants as set
-use Rattle.patch_set.specs.Refusals.{refusal, refusal_of}
+use Rattle.patch_set.specs.Refusals.{refusal}
 use Rattle.patch_set.specs.SetView.{SetView, IsRead, IsFresh, hunks_in, plain_patches}
 use Rattle.run_answers.specs.declared.fault.InputFault.{InputFault}
 use Rattle.run_answers.specs.declared.fault.InputFault.TheVariants as input
@@ -36,6 +36,7 @@ use Rattle.series_stack.proofs.Works.{targets-saved}
 use Rattle.stack_patch.specs.Reading.{push_options, patch_of_set, read_patch, targets_for}
 use Rattle.stack_patch.proofs.Lawful.{options_lawful}
 use Rattle.stack_patch.proofs.Reader.{reads}
+use Rattle.clean_text.proofs.LongTexts.{long_refused}
 use Rattle.stack_patch.proofs.Sets.{same_run}
 use Rattle.stack_patch.specs.declared.PushFault.{PushFault}
 use Rattle.stack_patch.specs.declared.PushFault.TheVariants.{Input, Set}
@@ -92,18 +93,18 @@ file_is s name file is named same f told =
 can-apply : (given : List ℕ) (v : SetView) → IsRead push_options given v → IsFresh v → CanApply push_options v
 can-apply given v read fresh = record { lawful = options_lawful; read = (given, read); verdicts = ap length fresh.verdicts ∙ length-replicate (hunks_in v.patches) Untried }
 
-stop-is : (given : List ℕ) (v : SetView) → IsRead push_options given v → (g : Files) → stop_in (Some given) g ≡ (set_run push_options v g).stop
+stop-is : (given : List ℕ) (v : SetView) → IsRead push_options (clean_of push_options given) v → (g : Files) → stop_in (Some given) g ≡ (set_run push_options v g).stop
 stop-is given v read g =
     ap (λ (t : List ℕ). patches_stop (patches_of (ways_of push_options) t) g) (sym read.text)
     ∙ ap (λ (r : Result (List PlainPatch) Fault). patches_stop r g) read.patches
-    ∙ ap (λ (r : Run). r.stop) (sym (same_run given v read g))
+    ∙ ap (λ (r : Run). r.stop) (sym (same_run (clean_of push_options given) v read g))
 
 pub next_is : {u : TreeView} (s : State) (name file : List ℕ) (v : SetView) (names : List (List ℕ)) → IsState u s → IsNamed s name → (is_absolute name ≡ false → file ≡ patch_name name) → IsPush u file v → IsFresh v
     → names ≡ names_of (targets_for push_options (plain_patches v)) → own_line (targets_for push_options (plain_patches v)) ≡ None → IsNext u name v names
 next_is s name file v names is named same push fresh are own =
     let patch : IsPatch (patch_of_set v) = reads.patches (Some push.given) (patch_of_set v) push.is.patch in
     record {
-      can = record { can = can-apply push.given v push.is.read fresh; patch = patch; saved = targets-saved (targets_for push_options (plain_patches v)) patch.names own };
+      can = record { can = can-apply (clean_of push_options push.given) v push.is.read fresh; patch = patch; saved = targets-saved (targets_for push_options (plain_patches v)) patch.names own };
       names = are;
       own = own;
       patch = λ f told. ap (λ (n : List ℕ). read_patch (get f n)) (sym (file_is s name file is named same f told)) ∙ ap read_patch (push.held f told) ∙ push.is.patch;
@@ -118,16 +119,16 @@ at-most : (text : List ℕ) → nat_lt 268435456 (length text) ≡ false → nat
 at-most text is = grind (arith, nat_tests)
 
 -- the answer of a text that is refused
-long-or : (b : Bool) (text : List ℕ) (fault : SetFault) → nat_lt 268435456 (length text) ≡ b → (if b then Some set.TooLong else refusal_of push_options text (patches_of (ways_of push_options) (completed text))) ≡ Some fault → patch_why (Some text) ≡ of_set fault
+long-or : (b : Bool) (text : List ℕ) (fault : SetFault) → nat_lt 268435456 (length text) ≡ b → refusal push_options (clean_of push_options text) ≡ Some fault → patch_why (Some text) ≡ of_set fault
 long-or true text fault long is =
-    let same : set.TooLong ≡ fault = cc in
-    ap (λ (v : Bool). input_why (if v then Ok text else Err input.TooLong)) (not-most text long) ∙ ap of_set same
+    let same : Some set.TooLong ≡ Some fault = sym (long_refused push_options text long) ∙ is in
+    let fault-is : set.TooLong ≡ fault = cc in
+    ap (λ (v : Bool). input_why (if v then Ok text else Err input.TooLong)) (not-most text long) ∙ ap of_set fault-is
 long-or false text fault short is =
     ap (λ (v : Bool). input_why (if v then Ok text else Err input.TooLong)) (at-most text short)
-    ∙ ap (λ (v : Bool). text_why (if v then Some set.TooLong else refusal_of push_options text (patches_of (ways_of push_options) (completed text)))) short
     ∙ ap text_why is
 
-refused-why : (text : List ℕ) (fault : SetFault) → refusal push_options text ≡ Some fault → patch_why (Some text) ≡ of_set fault
+refused-why : (text : List ℕ) (fault : SetFault) → refusal push_options (clean_of push_options text) ≡ Some fault → patch_why (Some text) ≡ of_set fault
 refused-why text fault is = long-or (nat_lt 268435456 (length text)) text fault refl is
 
 module _ (u w : TreeView) (a : ScratchView) (c : SinkView) (s : State) (name file : List ℕ) (is : IsState u s) (named : IsNamed s name) (same : is_absolute name ≡ false → file ≡ patch_name name) where
@@ -142,7 +143,7 @@ module _ (u w : TreeView) (a : ScratchView) (c : SinkView) (s : State) (name fil
 
   -- by its text
   by-text : (fault : SetFault) → HasCause (of_set fault) (Ok Push) (world u a c) (world w a c) → (is_own (of_set fault) ≡ true → is_early (of_set fault) ≡ true) → ((f : Files) → u.told ≡ Some f → read_patch (get f file) ≡ None)
-      → ((f : Files) → u.told ≡ Some f → (text : List ℕ) × ((get f file ≡ Some text) × (refusal push_options text ≡ Some fault))) → StopsEarly (of_set fault) Push (world u a c) (world w a c)
+      → ((f : Files) → u.told ≡ Some f → (text : List ℕ) × ((get f file ≡ Some text) × (refusal push_options (clean_of push_options text) ≡ Some fault))) → StopsEarly (of_set fault) Push (world u a c) (world w a c)
   by-text fault cause early none refuses = read-stops s name (of_set fault) cause early is named
       (λ f told. (
         at_file (λ o. read_patch o ≡ None) f told (none f told),
@@ -153,11 +154,11 @@ module _ (u w : TreeView) (a : ScratchView) (c : SinkView) (s : State) (name fil
   broken why own cause = record { cause = cause; early = λ yes. absurd (false≢true (sym own ∙ yes)); stops = λ yes. absurd (false≢true (sym own ∙ yes)) }
 
   -- a text, and not memory
-  refusing-text : (fault : SetFault) → (fault ≡ set.Memory → ⊥) → (fault ≡ set.Memory) ⊎ ((f : Files) → u.told ≡ Some f → (text : List ℕ) × ((get f file ≡ Some text) × (refusal push_options text ≡ Some fault)))
-      → (f : Files) → u.told ≡ Some f → (text : List ℕ) × ((get f file ≡ Some text) × (refusal push_options text ≡ Some fault))
+  refusing-text : (fault : SetFault) → (fault ≡ set.Memory → ⊥) → (fault ≡ set.Memory) ⊎ ((f : Files) → u.told ≡ Some f → (text : List ℕ) × ((get f file ≡ Some text) × (refusal push_options (clean_of push_options text) ≡ Some fault)))
+      → (f : Files) → u.told ≡ Some f → (text : List ℕ) × ((get f file ≡ Some text) × (refusal push_options (clean_of push_options text) ≡ Some fault))
   refusing-text fault not cause = ⊎_elim (λ memory. absurd (not memory)) (λ refuses. refuses) cause
 
-  some-text : (fault : SetFault) → (fault ≡ set.Memory → ⊥) → (text : List ℕ) × ((fault ≡ set.Memory) ⊎ (refusal push_options text ≡ Some fault)) → (text : List ℕ) × (refusal push_options text ≡ Some fault)
+  some-text : (fault : SetFault) → (fault ≡ set.Memory → ⊥) → (text : List ℕ) × ((fault ≡ set.Memory) ⊎ (refusal push_options (clean_of push_options text) ≡ Some fault)) → (text : List ℕ) × (refusal push_options (clean_of push_options text) ≡ Some fault)
   some-text fault not x = (x.0, ⊎_elim (λ memory. absurd (not memory)) (λ refuses. refuses) x.1)
 
   pub push_stops : (e : PushFault) → causes.HasCause e u w file → RefusesSome e → (IsRefusal e → (f : Files) → u.told ≡ Some f → read_patch (get f file) ≡ None) → StopsEarly (of_push e) Push (world u a c) (world w a c)

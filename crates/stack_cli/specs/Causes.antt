@@ -6,6 +6,7 @@ use Rattle.outside.specs.TreeView as tree
 use Rattle.outside.specs.SinkView as sink
 use Rattle.patch_options.specs.declared.options.WordFault.{WordFault}
 use Rattle.patch_options.specs.declared.options.WordFault.TheVariants as words
+use Rattle.clean_text.specs.Reading.{clean_of}
 use Rattle.patch_set.specs.declared.fault.SetFault.{SetFault}
 use Rattle.patch_set.specs.declared.fault.SetFault.TheVariants as set
 use Rattle.patch_set.specs.Refusals.{refusal}
@@ -18,9 +19,9 @@ use Rattle.run_answers.specs.Worlds.{World}
 use Rattle.stack_cli.specs.Jobs.{AsksFor, IsPushing}
 use Rattle.stack_cli.specs.Worlds.{Tells}
 
--- a push, and some text is refused so
+-- a push, and some text is refused so, once it is clean
 abbrev pub RefusesText : SetFault → StackOp → Type 0
-RefusesText fault op = IsPushing op × ((text : List ℕ) × (refusal push_options text ≡ Some fault))
+RefusesText fault op = IsPushing op × ((text : List ℕ) × (refusal push_options (clean_of push_options text) ≡ Some fault))
 
 -- there is an end to come to; behind the last pop none is applied
 abbrev pub HasEnd : ℕ → StackOp → Type 0

@@ -9,6 +9,7 @@ use Rattle.line_store.specs.declared.fault.OpenFault.{OpenFault}
 use Rattle.file_patch.specs.PlainPatch.{PlainPatch}
 use Rattle.patch_options.specs.declared.options.WordFault.{WordFault}
 use Rattle.patch_text.specs.Patches.{patches_of}
+use Rattle.clean_text.specs.Reading.{clean_of}
 use Rattle.patch_set.specs.Asked.{ways_of}
 use Rattle.patch_set.specs.declared.fault.SetFault.{SetFault}
 use Rattle.patch_set.specs.Refusals.{refusal}
@@ -54,7 +55,7 @@ text_why None = Done
 
 abbrev pub input_why : Result (List ℕ) InputFault → Why
 input_why (Err fault) = of_input fault
-input_why (Ok text) = text_why (refusal push_options text)
+input_why (Ok text) = text_why (refusal push_options (clean_of push_options text))
 
 -- why a file gives no patch: it is missing or too long, or its text is refused
 abbrev pub patch_why : Option (List ℕ) → Why
@@ -69,7 +70,7 @@ patches_stop (Ok ps) f = (run_of push_options None (items_for push_options ps) f
 
 abbrev pub stop_in : Option (List ℕ) → Files → Option OpenFault
 stop_in None f = None
-stop_in (Some text) f = patches_stop (patches_of (ways_of push_options) (completed text)) f
+stop_in (Some text) f = patches_stop (patches_of (ways_of push_options) (completed (clean_of push_options text))) f
 
 -- the answer of a patch that is cut off; one that isn't has another
 abbrev pub stop_why : Option OpenFault → Why

@@ -10,8 +10,11 @@ use Rattle.line_list.specs.Completed.{completed}
 use Rattle.hunk_core.specs.Reading.{Fault}
 use Rattle.file_patch.specs.PlainPatch.{PlainHeader, PlainPatch}
 use Rattle.file_patch.specs.Targets.{is_reserved}
+use Rattle.file_patch.specs.declared.derived.Target.{Target as FileTarget}
+use Rattle.patch_run.specs.Outcome.{moved_for}
 use Rattle.file_patch.specs.Numbered.{is_among}
 use Rattle.patch_text.specs.Patches.{patches_of}
+use Rattle.clean_text.specs.Reading.{clean_of}
 use Rattle.patch_set.specs.declared.fault.SetFault.{SetFault}
 use Rattle.patch_set.specs.declared.fault.SetFault.TheVariants as faults
 use Rattle.patch_set.specs.Asked.{ways_of}
@@ -132,14 +135,14 @@ module _ (ps : List PlainPatch) where
   targets_open [] each = tt
   targets_open (n ∷ names) each = (target_open n each.0, targets_open names each.1)
 
-  items_open : (qs : List PlainPatch) → Each (λ p. Each (λ n. is_among known n ≡ true) (named.names_of push_options p.header)) qs → Each (λ i. AreOpen IsOwn push_options i.targets) (map (item_for push_options known) qs)
-  items_open [] each = tt
-  items_open (q ∷ qs) each = (targets_open (named.names_of push_options q.header) each.0, items_open qs each.1)
+  items_open : (moved : List (List FileTarget)) (qs : List PlainPatch) → Each (λ p. Each (λ n. is_among known n ≡ true) (named.names_of push_options p.header)) qs → Each (λ i. AreOpen IsOwn push_options i.targets) (map (item_for push_options known moved) qs)
+  items_open moved [] each = tt
+  items_open moved (q ∷ qs) each = (targets_open (named.names_of push_options q.header) each.0, items_open moved qs each.1)
 
   patch_within : (f : Files) → AllByRecursion (λ e. IsOwn (changed_by e)) ((patch_for ps).run f).effects
   patch_within f =
       run_only IsOwn push_options None (λ w is. absurd cc) (items_for push_options ps) f
-      (items_open ps (flat_each (λ n. is_among known n ≡ true) (λ p. named.names_of push_options p.header) ps known_among))
+      (items_open (map (moved_for push_options known) ps) ps (flat_each (λ n. is_among known n ≡ true) (λ p. named.names_of push_options p.header) ps known_among))
 
   patch_is : reserved push_options ps ≡ None → IsPatch (patch_for ps)
   patch_is none = record { names = patch_lasting none; within = patch_within }
@@ -164,7 +167,7 @@ text_is text None p refused is =
 pub held_is : (held : Option (List ℕ)) (p : Patch) → read_patch held ≡ Some p → IsPatch p
 unfolding read_patch
 held_is None p is = absurd cc
-held_is (Some text) p is = text_is text (refusal push_options text) p refl is
+held_is (Some bytes) p is = text_is (clean_of push_options bytes) (refusal push_options (clean_of push_options bytes)) p refl is
 
 pub reads : IsReader read_patch
 reads = record { patches = held_is }

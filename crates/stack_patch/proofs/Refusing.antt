@@ -8,15 +8,17 @@ use Rattle.outside.specs.TreeView.{TreeView}
 use Rattle.line_list.specs.Completed.{completed}
 use Rattle.patch_options.specs.PlainJob.{PlainOptions, IsLawful}
 use Rattle.patch_text.specs.Patches.{patches_of}
+use Rattle.clean_text.specs.Reading.{clean_of}
 use Rattle.patch_set.specs.declared.fault.SetFault.{SetFault}
 use Rattle.patch_set.specs.declared.fault.SetFault.TheVariants as faults
 use Rattle.patch_set.specs.Asked.{ways_of}
 use Rattle.run_answers.specs.declared.fault.InputFault.{InputFault}
 use Rattle.run_answers.specs.declared.fault.InputFault.TheVariants as inputs
 use Rattle.run_answers.specs.Input.{HasFileCause, answer_of}
-use Rattle.patch_set.specs.Refusals.{refusal, refusal_of}
+use Rattle.patch_set.specs.Refusals.{refusal}
 use Rattle.patch_set.specs.SetView.{SetView, IsRead}
 use Rattle.stack_patch.specs.Reading.{push_options, patch_of_set, patch_in, unless_refused, read_patch}
+use Rattle.clean_text.proofs.LongTexts.{long_refused}
 use Rattle.stack_patch.proofs.Sets.{set_read}
 use Rattle.stack_patch.proofs.Lawful.{options_lawful}
 use Rattle.stack_patch.specs.declared.PushFault.{PushFault}
@@ -27,27 +29,29 @@ use Rattle.stack_patch.specs.Pushes.{IsPush}
 pub lawful_as : (o : PlainOptions) → o ≡ push_options → IsLawful o
 lawful_as o same = subst (λ (x : PlainOptions). IsLawful x) (sym same) options_lawful
 
-pub read_as : (o : PlainOptions) (text : List ℕ) (v : SetView) → o ≡ push_options → IsRead o text v → IsRead push_options text v
-read_as o text v same is = subst (λ (x : PlainOptions). IsRead x text v) same is
+pub read_as : (o : PlainOptions) (text : List ℕ) (v : SetView) → o ≡ push_options → IsRead o (clean_of o text) v → IsRead push_options (clean_of push_options text) v
+read_as o text v same is = subst (λ (x : PlainOptions). IsRead x (clean_of x text) v) same is
 
-pub patch_as : (o : PlainOptions) (text : List ℕ) (v : SetView) → o ≡ push_options → IsRead o text v → refusal o text ≡ None → read_patch (Some text) ≡ Some (patch_of_set v)
-patch_as o text v same is none = set_read text v (read_as o text v same is) (ap (λ (x : PlainOptions). refusal x text) (sym same) ∙ none)
+pub patch_as : (o : PlainOptions) (text : List ℕ) (v : SetView) → o ≡ push_options → IsRead o (clean_of o text) v → refusal o (clean_of o text) ≡ None → read_patch (Some text) ≡ Some (patch_of_set v)
+patch_as o text v same is none = set_read text v (read_as o text v same is) (subst (λ (x : PlainOptions). refusal x (clean_of x text) ≡ None) same none)
 
 pub missing_none : read_patch None ≡ None
 unfolding read_patch
 missing_none = refl
 
-pub refused_none : (text : List ℕ) (fault : SetFault) → refusal push_options text ≡ Some fault → read_patch (Some text) ≡ None
+pub refused_none : (text : List ℕ) (fault : SetFault) → refusal push_options (clean_of push_options text) ≡ Some fault → read_patch (Some text) ≡ None
 unfolding read_patch
-refused_none text fault is = ap (λ (o : Option SetFault). unless_refused o (patch_in (patches_of (ways_of push_options) (completed text)))) is
+refused_none text fault is = ap (λ (o : Option SetFault). unless_refused o (patch_in (patches_of (ways_of push_options) (completed (clean_of push_options text))))) is
 
-so_none : (text : List ℕ) (fault : SetFault) → (fault ≡ faults.Memory) ⊎ (refusal push_options text ≡ Some fault) → IsRefusal (Set fault) → read_patch (Some text) ≡ None
+pub text_refused : (o : PlainOptions) (text : List ℕ) (fault : SetFault) → o ≡ push_options → (fault ≡ faults.Memory) ⊎ (refusal o (clean_of o text) ≡ Some fault) → IsRefusedSo (Set fault) text
+text_refused o text fault same refused = subst (λ (x : PlainOptions). (fault ≡ faults.Memory) ⊎ (refusal x (clean_of x text) ≡ Some fault)) same refused
+
+so_none : (text : List ℕ) (fault : SetFault) → IsRefusedSo (Set fault) text → IsRefusal (Set fault) → read_patch (Some text) ≡ None
 so_none text fault (inl memory) is = absurd (subst (λ (x : SetFault). IsRefusal (Set x)) memory is)
 so_none text fault (inr refused) is = refused_none text fault refused
 
-pub text_none : (o : PlainOptions) (text : List ℕ) (fault : SetFault) → o ≡ push_options → (fault ≡ faults.Memory) ⊎ (refusal o text ≡ Some fault) → IsRefusal (Set fault) → read_patch (Some text) ≡ None
-text_none o text fault same (inl memory) is = so_none text fault (inl memory) is
-text_none o text fault same (inr refused) is = so_none text fault (inr (ap (λ (x : PlainOptions). refusal x text) (sym same) ∙ refused)) is
+pub text_none : (o : PlainOptions) (text : List ℕ) (fault : SetFault) → o ≡ push_options → (fault ≡ faults.Memory) ⊎ (refusal o (clean_of o text) ≡ Some fault) → IsRefusal (Set fault) → read_patch (Some text) ≡ None
+text_none o text fault same refused = so_none text fault (text_refused o text fault same refused)
 
 -- ---- a file that isn't read
 
@@ -56,7 +60,7 @@ too_long bytes is = grind (arith, nat_tests)
 
 long_none : (bytes : List ℕ) → nat_le (length bytes) 268435456 ≡ false → read_patch (Some bytes) ≡ None
 long_none bytes is =
-    refused_none bytes faults.TooLong (ap (λ b. if b then Some faults.TooLong else refusal_of push_options bytes (patches_of (ways_of push_options) (completed bytes))) (too_long bytes is))
+    refused_none bytes faults.TooLong (long_refused push_options bytes (too_long bytes is))
 
 short_not : (bytes : List ℕ) (short : Bool) (fault : InputFault) → nat_le (length bytes) 268435456 ≡ short → (if short then Ok bytes else Err inputs.TooLong) ≡ Err fault → read_patch (Some bytes) ≡ None
 short_not bytes true fault is same = absurd cc
@@ -75,17 +79,13 @@ file_none (inputs.Disagree want got) u w name cause is = absurd is
 file_none inputs.Memory u w name cause is = absurd is
 
 -- ---- a set that is read from the file
-pub pushed : {E : Type 0} (u : TreeView) (name text : List ℕ) (r : Result SetView E) → ((f : Files) → u.told ≡ Some f → get f name ≡ Some text) → IfOk r (IsRead push_options text)
+pub pushed : {E : Type 0} (u : TreeView) (name text : List ℕ) (r : Result SetView E) → ((f : Files) → u.told ≡ Some f → get f name ≡ Some text) → IfOk r (IsRead push_options (clean_of push_options text))
     → IfOk r (λ v. read_patch (Some text) ≡ Some (patch_of_set v)) → IfOk r (IsPush u name)
 pushed u name text (Ok v) held read patch = record { given = text; is = record { read = read; patch = patch }; held = held }
 pushed u name text (Err e) held read patch = tt
 
-pub some_refused : (o : PlainOptions) (text : List ℕ) (fault : SetFault) → o ≡ push_options → (fault ≡ faults.Memory) ⊎ (refusal o text ≡ Some fault) → RefusesSome (Set fault)
-some_refused o text fault same (inl memory) = (text, inl memory)
-some_refused o text fault same (inr refused) = (text, inr (ap (λ (x : PlainOptions). refusal x text) (sym same) ∙ refused))
-
-pub text_refused : (o : PlainOptions) (text : List ℕ) (fault : SetFault) → o ≡ push_options → (fault ≡ faults.Memory) ⊎ (refusal o text ≡ Some fault) → IsRefusedSo (Set fault) text
-text_refused o text fault same refused = subst (λ (x : PlainOptions). (fault ≡ faults.Memory) ⊎ (refusal x text ≡ Some fault)) same refused
+pub some_refused : (o : PlainOptions) (text : List ℕ) (fault : SetFault) → o ≡ push_options → (fault ≡ faults.Memory) ⊎ (refusal o (clean_of o text) ≡ Some fault) → RefusesSome (Set fault)
+some_refused o text fault same refused = (text, text_refused o text fault same refused)
 
 -- ---- what is refused of the text is refused of the file that holds it
 

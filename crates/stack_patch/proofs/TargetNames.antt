@@ -15,8 +15,9 @@ use Rattle.outside.proofs.Components.{neither}
 use Rattle.outside.proofs.Lawful.{obeys, patch_normal, patch_behind}
 use Rattle.file_patch.specs.Actions.{is_moved}
 use Rattle.file_patch.specs.PlainPatch.{PlainHeader, PlainPatch}
+use Rattle.header_record.specs.Quoted.{name_of}
 use Rattle.file_patch.specs.Stripped.{stripped}
-use Rattle.file_patch.specs.Candidates.{lawful_name, candidate, header_candidate, header_names, index_names, index_beside, candidates}
+use Rattle.file_patch.specs.Candidates.{lawful_name, left_if_file, left_name, candidate, header_candidate, header_names, index_names, index_beside, candidates}
 use Rattle.file_patch.specs.Moved.{moved_strip, moved_name, differing, two_names, moved_names}
 use Rattle.file_patch.specs.Numbered.{is_among, with_name, joined_by, distinct}
 use Rattle.file_patch.proofs.Names.{same-is, are-same, all-join}
@@ -105,14 +106,20 @@ then_named : (f : List ℕ → Option (List ℕ)) → ((text : List ℕ) → Nam
 then_named f is None = tt
 then_named f is (Some text) = is text
 
+left_named : (strip : Option ℕ) (name : List ℕ) → Named (left_name strip name)
+left_named strip name = then_named lawful_name lawful_named (stripped strip name)
+
 candidate_named : (strip : Option ℕ) (text : List ℕ) → Named (candidate strip text)
-candidate_named strip text = then_named lawful_name lawful_named (stripped strip text)
+candidate_named strip text = then_named (left_name strip) (left_named strip) (name_of text)
+
+file_named : (strip : Option ℕ) (name : List ℕ) → Named (left_if_file strip name)
+file_named strip name = elim (bytes_eq name (codes "/dev/null")) as (λ b. Named (if b then None else left_name strip name)) [
+  | true ↦ tt
+  | false ↦ left_named strip name
+]
 
 header_named : (strip : Option ℕ) (text : List ℕ) → Named (header_candidate strip text)
-header_named strip text = elim (bytes_eq text (codes "/dev/null")) as (λ b. Named (if b then None else candidate strip text)) [
-  | true ↦ tt
-  | false ↦ candidate_named strip text
-]
+header_named strip text = then_named (left_if_file strip) (file_named strip) (name_of text)
 
 each_named : (o : Option (List ℕ)) → Named o → Each IsPatchName (option_to_list o)
 each_named None is = tt

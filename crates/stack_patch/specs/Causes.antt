@@ -6,21 +6,22 @@ use Rattle.outside.specs.TreeView.{TreeView}
 use Rattle.run_answers.specs.declared.fault.InputFault.TheVariants.{NoPatchFile, TooLong, Source, Tree, Disagree}
 use Rattle.run_answers.specs.declared.fault.InputFault.TheVariants as inputs
 use Rattle.run_answers.specs.Input.{HasFileCause}
+use Rattle.clean_text.specs.Reading.{clean_of}
 use Rattle.patch_set.specs.declared.fault.SetFault.TheVariants as faults
 use Rattle.patch_set.specs.Refusals.{refusal}
 use Rattle.stack_patch.specs.Reading.{push_options}
 use Rattle.stack_patch.specs.declared.PushFault.{PushFault}
 use Rattle.stack_patch.specs.declared.PushFault.TheVariants.{Input, Set}
 
--- the file isn't read; or its text is refused so, or memory ran out
+-- the file isn't read; or its text is refused so once it is clean, or memory ran out
 abbrev pub HasCause : PushFault → TreeView → TreeView → List ℕ → Type 0
 HasCause (Input fault) u w name = HasFileCause fault u w name
-HasCause (Set fault) u w name = (fault ≡ faults.Memory) ⊎ ((f : Files) → u.told ≡ Some f → (text : List ℕ) × ((get f name ≡ Some text) × (refusal push_options text ≡ Some fault)))
+HasCause (Set fault) u w name = (fault ≡ faults.Memory) ⊎ ((f : Files) → u.told ≡ Some f → (text : List ℕ) × ((get f name ≡ Some text) × (refusal push_options (clean_of push_options text) ≡ Some fault)))
 
 -- of a text alone
 abbrev pub IsRefusedSo : PushFault → List ℕ → Type 0
 IsRefusedSo (Input fault) text = ⊥
-IsRefusedSo (Set fault) text = (fault ≡ faults.Memory) ⊎ (refusal push_options text ≡ Some fault)
+IsRefusedSo (Set fault) text = (fault ≡ faults.Memory) ⊎ (refusal push_options (clean_of push_options text) ≡ Some fault)
 
 -- the file is missing, or its text is refused; neither a device nor memory failed
 abbrev pub IsRefusal : PushFault → Type 0
@@ -38,7 +39,7 @@ IsRefusal (Set (faults.EdReverse line)) = Unit {0}
 IsRefusal (Set (faults.Reserved line)) = Unit {0}
 IsRefusal (Set faults.Memory) = ⊥
 
--- whatever is told: some text is refused so, or memory ran out
+-- whatever is told: some text is refused so, once it is clean, or memory ran out
 abbrev pub RefusesSome : PushFault → Type 0
 RefusesSome (Input fault) = Unit {0}
-RefusesSome (Set fault) = (text : List ℕ) × ((fault ≡ faults.Memory) ⊎ (refusal push_options text ≡ Some fault))
+RefusesSome (Set fault) = (text : List ℕ) × ((fault ≡ faults.Memory) ⊎ (refusal push_options (clean_of push_options text) ≡ Some fault))

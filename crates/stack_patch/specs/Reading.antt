@@ -14,11 +14,14 @@ use Rattle.file_patch.specs.PlainPatch.{PlainPatch}
 use Rattle.patch_text.specs.Patches.{patches_of}
 use Rattle.patch_set.specs.declared.fault.SetFault.{SetFault}
 use Rattle.patch_set.specs.Asked.{ways_of}
+use Rattle.clean_text.specs.Reading.{clean_of}
 use Rattle.patch_set.specs.Named.{names_of, known_names, target_in, targets_of}
 use Rattle.patch_set.specs.Refusals.{refusal}
 use Rattle.patch_set.specs.SetView.{SetView, plain_patches}
 use Rattle.patch_run.specs.OnePatch.{Item}
 use Rattle.patch_run.specs.Run.{Run, run_of, set_run}
+use Rattle.file_patch.specs.declared.derived.Target.{Target as FileTarget}
+use Rattle.patch_run.specs.Outcome.{moved_for}
 use Rattle.series_stack.specs.Commands.{Ending, Application, Target, Patch, Reader}
 use Rattle.series_stack.specs.Commands.Ending.{Done, Rejected, CutOff}
 
@@ -47,8 +50,10 @@ push_options = record {
   reject_form = None;
   define = None;
   posix = false;
+  keep_returns = false;
   skip_binary = false;
   dry_run = false;
+  follow_links = false;
   silent = false;
   verbose = false;
   plan = Auto;
@@ -59,11 +64,11 @@ push_options = record {
 -- ---- the file patches and their targets
 
 -- a file patch with its targets, where the names of the run are known; a push passes over no binary change
-abbrev pub item_for : PlainOptions → List (List ℕ) → PlainPatch → Item
-item_for o known p = record { patch = p; targets = targets_of o known p.header; skipped = [] }
+abbrev pub item_for : PlainOptions → List (List ℕ) → List (List FileTarget) → PlainPatch → Item
+item_for o known moved p = record { patch = p; targets = targets_of o known p.header; skipped = []; moved = moved }
 
 abbrev pub items_for : PlainOptions → List PlainPatch → List Item
-items_for o ps = map (item_for o (known_names o ps)) ps
+items_for o ps = map (item_for o (known_names o ps) (map (moved_for o (known_names o ps)) ps)) ps
 
 -- the file patch can be meant for this name
 abbrev pub is_meant_for : PlainOptions → List ℕ → PlainPatch → Bool
@@ -121,4 +126,4 @@ patch_of_text text = unless_refused (refusal push_options text) (patch_in (patch
 -- the patch that the file holds, or none where it is missing or refused
 unfoldable pub read_patch : Reader
 read_patch None = None
-read_patch (Some text) = patch_of_text text
+read_patch (Some bytes) = patch_of_text (clean_of push_options bytes)

@@ -4,6 +4,7 @@ ghost use Rattle.std.specs.List.{AllByRecursion};
 ghost use Rattle.outside.specs.Files.{Files};
 ghost use Rattle.patch_options.specs.PlainJob.{PlainOptions, IsLawful};
 ghost use Rattle.file_patch.specs.declared.derived.Target.{Target};
+ghost use Rattle.clean_text.specs.Reading.{clean_of};
 ghost use Rattle.patch_set.specs.Refusals.{refusal};
 ghost use Rattle.patch_set.specs.SetView.{SetView, IsRead};
 ghost use Rattle.patch_run.specs.OnePatch.{Item};
@@ -21,11 +22,11 @@ pub fn names_of_a_run()
 {}
 
 /// The patches of a stack have lawful names that are no temporaries', and change nothing but their targets and these reject
-/// files. So a stack of them keeps its laws. Where a text is read as a set of file patches, its patch has the targets
+/// files. So a stack of them keeps its laws. Where a text, once it is clean, is read as a set of file patches, its patch has the targets
 /// of the set, and does what a run over the set does.
 pub fn patches_of_a_stack()
     ensures lawful { IsLawful push_options }
     ensures reader { IsReader read_patch }
-    ensures set { (text : List ℕ) (v : SetView) → refusal push_options text ≡ None → IsRead push_options text v → read_patch (Some text) ≡ Some (patch_of_set v) }
+    ensures set { (text : List ℕ) (v : SetView) → refusal push_options (clean_of push_options text) ≡ None → IsRead push_options (clean_of push_options text) v → read_patch (Some text) ≡ Some (patch_of_set v) }
     ensures stack { KeepsItsStack read_patch }
 {}

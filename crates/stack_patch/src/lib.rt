@@ -9,6 +9,7 @@ ghost use Rattle.std.specs.FinMap.{get};
 ghost use Rattle.outside.specs.Files.{Files};
 ghost use Rattle.outside.specs.Calls.{IsUntouched};
 ghost use Rattle.patch_options.specs.PlainJob.{plain_options};
+ghost use Rattle.clean_text.specs.Reading.{clean_of};
 ghost use Rattle.patch_set.specs.SetView.{IsRead, IsFresh, IsWhole};
 ghost use Rattle.stack_patch.specs.Reading.{push_options, patch_of_set, read_patch};
 ghost use Rattle.stack_patch.specs.Causes.{HasCause, IsRefusedSo, IsRefusal, RefusesSome};
@@ -17,11 +18,12 @@ ghost use Rattle.stack_patch.specs.Pushes.{IsPush};
 mod laws;
 mod names;
 
+use clean_text::read_clean;
 pub use laws::{names_of_a_run, patches_of_a_stack};
 pub use names::{Saved, saved_names};
 use outside::{Name, Tree};
 use patch_options::{Input, Options, PlanKind, SyncKind};
-use patch_set::{PatchSet, SetFault, read_set};
+use patch_set::{PatchSet, SetFault};
 use run_answers::{InputFault, read_file};
 use std::alloc::Global;
 
@@ -62,8 +64,10 @@ pub fn push_options() -> Options
         reject_form: None,
         define: None,
         posix: false,
+        keep_returns: false,
         skip_binary: false,
         dry_run: false,
+        follow_links: false,
         silent: false,
         verbose: false,
         plan: PlanKind::Auto,
@@ -98,14 +102,14 @@ pub fn read_push<T: Tree>(
 fn read_text(alloc: Global, text: Vec<u8>, options: &Options) -> Result<PatchSet, PushFault>
     requires { plain_options options.now ≡ push_options }
     ensures patch { IfOk result (λ set. read_patch (Some text.items) ≡ Some (patch_of_set set)) }
-    ensures read { IfOk result (IsRead push_options text.items) }
+    ensures read { IfOk result (IsRead push_options (clean_of push_options text.items)) }
     ensures fresh { IfOk result IsFresh }
     ensures whole { IfOk result IsWhole }
     ensures cause { IfErr result (λ e. IsRefusedSo e text.items) }
     ensures some { IfErr result RefusesSome }
     ensures none { IfErr result (λ e. IsRefusal e → read_patch (Some text.items) ≡ None) }
 {
-    match read_set(alloc, text, options) {
+    match read_clean(alloc, text, options) {
         Ok(set) => Ok(set),
         Err(fault) => Err(PushFault::Set(fault)),
     }

@@ -131,7 +131,7 @@ patch|--version-control|never =>
 patch|-g0 =>
 patch|-g|00 =>
 patch|--get=0 =>
-patch|--binary =>
+patch|--binary => keep_returns: true
 patch|--skip-binary => skip_binary: true
 patch|--skip-binary|-s|-p1 => strip: Some(1), skip_binary: true, silent: true
 patch|-t|-F|0|-N|-p1|-u|-V|never|-E|-b|-B|.pc/x/|--reject-file=- => only: Some(Unified), strip: Some(1), fuzz: 0, batch: true, forward: true, remove_empty: true, backup: true, prefix: Some(".pc/x/"), no_rejects: true
@@ -185,6 +185,9 @@ patch|-V|none|-V|off|-Vnev|--version-c=s =>
 patch|--quoting-style=literal|--quoting-style=shell|--quoting-style=shell-always|--quoting-style=c|--quot=escape =>
 patch|--read-only=warn|--read-only=ignore =>
 patch|--sync=none => sync: Never
+patch|-o|- => output: Some("-")
+patch|--follow-symlinks => follow_links: true
+patch|-x3|--debug=1 =>
 patch|--sync|none|--sync=each =>
 lsdiff|-snp1|-i|a*|-xb|-Ic|-Xd|--strip=2|--skip-binary|e => Ok(List(ListJob { input: File("e"), select: Select { strip: 1, include: [[97, 42]], exclude: [[98]], include_file: Some("c"), exclude_file: Some("d"), only_included: true, skip_binary: true }, status: true, numbers: true, shown_strip: 2 }))
 filterdiff|--hunks=1,2-5|--lines=-3|--files|7-|--format=ed => Ok(Filter(FilterJob { input: Standard, select: Select { strip: 0, include: [], exclude: [], include_file: None, exclude_file: None, only_included: false, skip_binary: false }, hunks: Some(Ranges { items: [(1, 1), (2, 5)] }), lines: Some(Ranges { items: [(1, 3)] }), files: Some(Ranges { items: [(7, 4294967295)] }), format: Some(Ed) }))

@@ -2,8 +2,8 @@ use Rattle.patch_options.specs.PlainJob.{plain_options}
 use Rattle.stack_patch.proofs.Refusing.{lawful_as, patch_as, read_as, some_refused, text_none, text_refused}
 use Rattle.stack_patch.proofs.read_text.Goals as goal
 
-pub read_set-requires : goal.read_set-requires
-read_set-requires c = lawful_as (plain_options c.args.options.now) c.requires
+pub read_clean-requires : goal.read_clean-requires
+read_clean-requires c = lawful_as (plain_options c.args.options.now) c.requires
 
 pub returns-in-Ok-clause-patch : goal.returns-in-Ok-clause-patch
 returns-in-Ok-clause-patch c = patch_as (plain_options c.args.options.now) c.args.text.items c.in-Ok.set c.requires c.in-Ok.ensures.read c.in-Ok.ensures.refused

@@ -1,10 +1,12 @@
+use Rattle.clean_text.specs.Reading.{clean_of}
+use Rattle.stack_patch.specs.Reading.{push_options}
 use Rattle.stack_cli.specs.Faults.{of_push}
 use Rattle.stack_cli.proofs.Standing.{stops_as}
 use Rattle.stack_cli.proofs.Fetching.{names_next, names_stop, push_stops}
 use Rattle.stack_cli.proofs.pushing.read_from.Goals as goal
 
 pub with_names-requires : goal.with_names-requires
-with_names-requires g c = (c.in-Ok.ensures.push.given, c.in-Ok.ensures.push.is.read)
+with_names-requires g c = (clean_of push_options c.in-Ok.ensures.push.given, c.in-Ok.ensures.push.is.read)
 
 pub returns-in-Ok : goal.returns-in-Ok
 returns-in-Ok g c = record {

@@ -1,0 +1,6 @@
+mod Lines
+mod Bared
+mod Finding
+mod CleanedLines
+mod LineForLine
+pub mod LongTexts

@@ -1,0 +1,4 @@
+pub mod Cleaned
+pub mod Bare
+pub mod Cleaning
+pub mod Reading

@@ -1,0 +1,9 @@
+-- A patch text as a command reads it.
+use Rattle.std.specs.Prelude.{ℕ, List}
+use Rattle.patch_options.specs.PlainJob.{PlainOptions}
+use Rattle.patch_set.specs.Asked.{ways_of}
+use Rattle.clean_text.specs.Cleaned.{cleaned}
+
+-- without the carriage returns that are no file's
+abbrev pub clean_of : PlainOptions → List ℕ → List ℕ
+clean_of o given = cleaned (ways_of o) o.keep_returns given

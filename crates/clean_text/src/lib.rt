@@ -1,0 +1,12 @@
+//! A patch text as `patch` reads it, without the carriage returns that mail or another system put in front of its line feeds.
+#![tactic(auto)]
+
+mod bare;
+mod cleaning;
+mod laws;
+mod losing;
+mod reading;
+
+pub use cleaning::clean;
+pub use laws::cleaned_line_for_line;
+pub use reading::read_clean;

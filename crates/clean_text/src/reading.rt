@@ -1,0 +1,26 @@
+//! Reading a set of a clean text.
+
+ghost use Rattle.std.specs.Prelude.{◌≡◌, IfOk};
+ghost use Rattle.patch_options.specs.PlainJob.{plain_options, IsLawful};
+ghost use Rattle.patch_set.specs.Refusals.{refusal};
+ghost use Rattle.patch_set.specs.Room.{are_asked};
+ghost use Rattle.patch_set.specs.SetView.{IsFresh, IsRead, IsWhole, Meets};
+ghost use Rattle.clean_text.specs.Reading.{clean_of};
+
+use crate::cleaning::clean;
+use patch_options::Options;
+use patch_set::{PatchSet, SetFault, read_set, ways_of};
+use std::alloc::Global;
+
+/// Reads a patch text as `read_set` does, once it is without the carriage returns that are no file's.
+pub fn read_clean(alloc: Global, given: Vec<u8>, options: &Options) -> Result<PatchSet, SetFault>
+    requires { IsLawful (plain_options options.now) }
+    ensures read { IfOk result (IsRead (plain_options options.now) (clean_of (plain_options options.now) given.items)) }
+    ensures fresh { IfOk result IsFresh }
+    ensures whole { IfOk result IsWhole }
+    ensures marks { IfOk result (λ set. set.has_marks ≡ are_asked (plain_options options.now)) }
+    ensures refused { Meets (refusal (plain_options options.now) (clean_of (plain_options options.now) given.items)) result }
+{
+    let text = clean(alloc, given, ways_of(options), options.keep_returns)?;
+    read_set(alloc, text, options)
+}
