@@ -20,9 +20,10 @@ use Rattle.patch_set.specs.Named.{known_names, output_of}
 use Rattle.patch_set.specs.Skipped.{skipped_lines}
 use Rattle.say_text.specs.Messages.{silenced, skipping_lines, reversed_line, not_deleting_line, failures_line}
 use Rattle.file_patch.specs.declared.derived.Target.{Target}
-use Rattle.patch_run.specs.OnePatch.{Item, PlainTurn, Tried, hunk_said, hunks_said, script_said, change_said, Start, skips, refuses, tries, Ending, ended, stopped, said_first, skips_at, lines_in, first_hunk, is_reversed, turns_round, on_direction, lacks_word, prereq_said, on_prereq, refusal_of, refused_or, on_taking, exists_said, on_existing, is_in_the_way, on_creation, patching_said, on_target, on_choice, choice_of, is_first, skipped_said, own_start, start, bytes_of, some_failed, failed, total, named_reject, is_kept, kept_said, failures_said, tried_said, shown, written, tried, ending_of, ending}
+use Rattle.say_text.specs.declared.standing.Standing.{Standing}
+use Rattle.patch_run.specs.OnePatch.{Item, PlainTurn, Tried, hunk_said, hunks_said, script_said, change_said, Start, skips, refuses, tries, Ending, ended, stopped, said_first, skips_at, lines_in, first_hunk, is_reversed, turns_round, on_direction, lacks_word, prereq_said, on_prereq, refusal_of, refused_or, on_taking, unfit, unfit_said, on_misfit, is_forced, on_fitting, on_file, patching_said, on_target, on_choice, choice_of, is_first, skipped_said, own_start, start, bytes_of, some_failed, failed, total, named_reject, is_kept, kept_said, failures_said, tried_said, shown, written, tried, ending_of, ending}
 use Rattle.patch_run.specs.Run.{Run, begun, turn_of, with_ending, if_going, with_item, run_on}
-use Rattle.patch_run.specs.Outcome.{item_for, run_for}
+use Rattle.patch_run.specs.Outcome.{moved_for, item_for, run_for}
 
 or_false : (a b : Bool) → (a || b) ≡ false → (a ≡ false) × (b ≡ false)
 or_false true b is = absurd (false≢true (sym is))
@@ -68,17 +69,20 @@ module _ (t : PlainTurn) (place : ℕ) (silent : t.options.silent ≡ true) wher
       (mute_if (not (lacks_word t.item.patch.header.prereq bytes)) go (if t.options.force then said_first (prereq_said t) go else skips_at (prereq_said t) place side bytes) mute
       (mute_if t.options.force (said_first (prereq_said t) go) (skips_at (prereq_said t) place side bytes) (mute_first (prereq_said t) go (none_of _) mute) tt))
 
-  mute_existing : (bytes : Option (List ℕ)) (side : Side) → Mute (on_existing t place bytes side)
-  mute_existing bytes side =
-      mute_if (turns_round t) (said_first (exists_said t place true) (on_taking t place bytes true (other_side side))) (skips_at (exists_said t place false) place side None)
-      (mute_first (exists_said t place true) (on_taking t place bytes true (other_side side)) (none_of _) (mute_taking bytes true (other_side side))) tt
+  mute_misfit : (stands : Standing) (bytes : Option (List ℕ)) (side : Side) → Mute (on_misfit t stands place bytes side)
+  mute_misfit stands bytes side =
+      mute_if (turns_round t) (said_first (unfit_said t stands place true) (on_taking t place bytes true (other_side side))) (skips_at (unfit_said t stands place false) place side None)
+      (mute_first (unfit_said t stands place true) (on_taking t place bytes true (other_side side)) (none_of _) (mute_taking bytes true (other_side side))) tt
+
+  mute_fitting : (bytes : Option (List ℕ)) (side : Side) (stands : Option Standing) → Mute (on_fitting t place bytes side stands)
+  mute_fitting bytes side None = mute_taking bytes false side
+  mute_fitting bytes side (Some stands) =
+      mute_if (is_forced t place) (on_taking t place bytes false side) (on_misfit t stands place bytes side) (mute_taking bytes false side) (mute_misfit stands bytes side)
 
   mute_target : (f : Files) → Mute (on_target t f place)
   mute_target f =
       let side = side_of t.options.reverse in
-      let bytes = bytes_of t f place in
-      mute_first (patching_said t place) (on_creation t f place side) (none_of _)
-      (mute_if (not (is_in_the_way t f place side) || t.options.force) (on_taking t place bytes false side) (on_existing t place bytes side) (mute_taking bytes false side) (mute_existing bytes side))
+      mute_first (patching_said t place) (on_file t f place side) (none_of _) (mute_fitting (bytes_of t f place) side (unfit t f place side))
 
 mute_choice : (t : PlainTurn) (f : Files) (x : Choice) → t.options.silent ≡ true → Mute (on_choice t f x)
 mute_choice t f (Existing k) silent = mute_target t k silent f
@@ -172,12 +176,12 @@ item_hushed o output r i silent none hushed =
       | Some fault ↦ λ stop. hushed
     ] refl
 
-run_hushed : (o : PlainOptions) (output : Option Target) (known : List (List ℕ)) (skipped : List ℕ) (ps : List PlainPatch) (r : Run) → o.silent ≡ true → skipped ≡ [] → IsHushed r
-    → IsHushed (run_on o output (map (item_for o known skipped) ps) r)
+run_hushed : (o : PlainOptions) (output : Option Target) (known : List (List ℕ)) (skipped : List ℕ) (moved : List (List Target)) (ps : List PlainPatch) (r : Run) → o.silent ≡ true → skipped ≡ [] → IsHushed r
+    → IsHushed (run_on o output (map (item_for o known skipped moved) ps) r)
 unfolding run_on
-run_hushed o output known skipped [] r silent none hushed = hushed
-run_hushed o output known skipped (p ∷ ps) r silent none hushed =
-    run_hushed o output known skipped ps (with_item o output r (item_for o known skipped p)) silent none (item_hushed o output r (item_for o known skipped p) silent none hushed)
+run_hushed o output known skipped moved [] r silent none hushed = hushed
+run_hushed o output known skipped moved (p ∷ ps) r silent none hushed =
+    run_hushed o output known skipped moved ps (with_item o output r (item_for o known skipped moved p)) silent none (item_hushed o output r (item_for o known skipped moved p) silent none hushed)
 
 none_if : (b : Bool) (l : List ℕ) → b ≡ false → (if b then l else []) ≡ []
 none_if b l not = ap (λ (x : Bool). if x then l else []) not
@@ -188,4 +192,4 @@ unfolding skipped_lines
 none_skipped o text not = none_if o.skip_binary _ not
 
 pub silent_for : (o : PlainOptions) (text : List ℕ) (ps : List PlainPatch) (f : Files) → o.silent ≡ true → o.skip_binary ≡ false → IsHushed (run_for o text ps f)
-silent_for o text ps f silent not = run_hushed o (output_of o (known_names o ps)) (known_names o ps) (skipped_lines (ways_of o) text) ps (begun f) silent (none_skipped o text not) (λ good on. refl)
+silent_for o text ps f silent not = run_hushed o (output_of o (known_names o ps)) (known_names o ps) (skipped_lines (ways_of o) text) (map (moved_for o (known_names o ps)) ps) ps (begun f) silent (none_skipped o text not) (λ good on. refl)

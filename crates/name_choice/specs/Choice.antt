@@ -61,13 +61,13 @@ created (Some k) = Create k
 abbrev pub existing : Bool → Files → List (List ℕ) → Option ℕ
 existing posix files names = if posix then position (is_there files) names else best_among (is_there files) names
 
--- a name that is to be made: the operand, which is the one name; else, without --posix and where a file can be made, the best of those that need the fewest new directories
+-- a name that isn't there: the operand, which is the one name; else, without --posix and where one can be made, the best of those that need the fewest new directories
 abbrev pub to_create : List (List ℕ) → Bool → Bool → Bool → Files → Choice
 to_create names operand makes posix files = if operand then created (first_place names)
     else if makes && not posix then created (best_among (needs_fewest files names) names)
     else Nothing
 
--- a name that is in the tree, or else one that is to be made
+-- a name that is in the tree, or else one that isn't
 unfoldable pub choice_among : List (List ℕ) → Bool → Bool → Bool → Files → Choice
 choice_among names operand makes posix files = existing_or (to_create names operand makes posix files) (existing posix files names)
 
@@ -103,7 +103,7 @@ abbrev pub side_of : Bool → Side
 side_of true = Reversed
 side_of false = Forward
 
--- for a file patch of this action that can make its file or can't, with these names: where there is an operand, where the file patch is taken reversed, and with option --posix
+-- for a file patch of this action that names a file which isn't there or doesn't, with these names: where there is an operand, where the file patch is taken reversed, and with option --posix
 unfoldable pub choice : Action → Bool → List (List ℕ) → Bool → Bool → Bool → Files → Choice
 choice action makes names operand reverse posix files = if is_moved action
     then existing_at files names (source_place action (side_of reverse))

@@ -1,9 +1,10 @@
--- Which file patches make their file where none of their names is there (POSIX `patch`, "Filename Determination"; GNU patch manual, "Creating and Removing Files").
+-- Which file patches can make their file, and so name one that isn't there (POSIX `patch`, "Filename Determination"; GNU patch manual, "Creating and Removing Files").
 use Rattle.std.specs.Prelude.{Bool, true, false, ◌&&◌, ◌||◌, ◌==◌, List, [], ◌∷◌}
 use Rattle.hunk_core.specs.declared.Form.{Form}
 use Rattle.hunk_core.specs.declared.Form.TheVariants.{Unified, Context, Normal, Ed}
 use Rattle.hunk_core.specs.declared.Hunk.{Hunk}
 use Rattle.hunk_core.specs.declared.Side.{Side}
+use Rattle.hunk_core.specs.declared.Side.TheVariants.{Forward, Reversed}
 use Rattle.hunk_core.specs.PlainHunk.{PlainHunk}
 use Rattle.hunk_core.specs.Sides.{start_of}
 use Rattle.hunk_core.specs.Turned.{turned}
@@ -30,6 +31,10 @@ starts_at_none side (script es) = false
 abbrev pub may_make : Side → PlainPatch → Bool
 may_make side p = creates side p || (tells_empty_sides p.header.form && starts_at_none side p.change)
 
+-- from one side or the other it can make its file; so it names one that isn't there
+abbrev pub names_new : PlainPatch → Bool
+names_new p = may_make Forward p || may_make Reversed p
+
 -- ---- what a file patch that was read says of it
 
 abbrev pub first_none : Side → List Hunk → Bool
@@ -42,3 +47,6 @@ told_none side (Script es) = false
 
 abbrev pub told_making : Side → FilePatch → Bool
 told_making side p = told_absent side p || (tells_empty_sides p.header.form && told_none side p.change)
+
+abbrev pub told_new : FilePatch → Bool
+told_new p = told_making Forward p || told_making Reversed p

@@ -4,20 +4,18 @@ ghost use Rattle.outside.specs.Files.{Files};
 ghost use Rattle.outside.specs.TreeView.{Rises};
 ghost use Rattle.outside.specs.Calls.{IsUntouched};
 ghost use Rattle.name_choice.specs.Choice.{choice_among, created, existing, first_place, names_of, IsWithin, IsFound};
-ghost use Rattle.name_choice.specs.Making.{told_making};
+ghost use Rattle.name_choice.specs.Making.{told_new};
 
 use crate::Choice;
-use crate::making::may_make;
+use crate::making::names_new;
 use crate::search::{best_existing, best_new, first_existing};
 use file_patch::{FilePatch, Target};
-use hunk_core::Side;
 use outside::{Failed, Tree};
 
-/// Chooses where the file patch is taken from this side.
+/// Chooses where the file isn't renamed or copied.
 pub fn choose_among<T: Tree>(
     patch: &FilePatch,
     operand: bool,
-    side: Side,
     posix: bool,
     tree: &mut T,
 ) -> Result<Choice, Failed>
@@ -26,10 +24,10 @@ pub fn choose_among<T: Tree>(
     ensures cause { OnErr result (Rises (T.view tree.old) (T.view tree.new)) }
     ensures within { IfOk result (IsWithin (length patch.now.targets.items)) }
     ensures chosen { IfOk result (λ chosen. (files : Files) → (T.view tree.old).told ≡ Some files
-        → chosen ≡ choice_among (names_of patch.now.targets.items) operand (told_making side patch.now) posix files) }
+        → chosen ≡ choice_among (names_of patch.now.targets.items) operand (told_new patch.now) posix files) }
     ensures there { IfOk result (λ chosen. (files : Files) → (T.view tree.new).told ≡ Some files → IsFound patch.now.targets.items files chosen) }
 {
-    choose_from(patch, operand, side, posix, tree)
+    choose_from(patch, operand, posix, tree)
 }
 
 /// The same, without what follows of the tree.
@@ -37,7 +35,6 @@ pub fn choose_among<T: Tree>(
 fn choose_from<T: Tree>(
     patch: &FilePatch,
     operand: bool,
-    side: Side,
     posix: bool,
     tree: &mut T,
 ) -> Result<Choice, Failed>
@@ -46,7 +43,7 @@ fn choose_from<T: Tree>(
     ensures cause { OnErr result (Rises (T.view tree.old) (T.view tree.new)) }
     ensures within { IfOk result (IsWithin (length patch.now.targets.items)) }
     ensures chosen { IfOk result (λ chosen. (files : Files) → (T.view tree.old).told ≡ Some files
-        → chosen ≡ choice_among (names_of patch.now.targets.items) operand (told_making side patch.now) posix files) }
+        → chosen ≡ choice_among (names_of patch.now.targets.items) operand (told_new patch.now) posix files) }
 {
     if let Some(place) = existing(&patch.targets, posix, tree)? {
         return Ok(Choice::Existing(place));
@@ -54,7 +51,7 @@ fn choose_from<T: Tree>(
     if operand {
         return Ok(first_created(&patch.targets));
     }
-    if posix || !may_make(patch, side) {
+    if posix || !names_new(patch) {
         return Ok(Choice::Nothing);
     }
     Ok(created(best_new(&patch.targets, tree)?))

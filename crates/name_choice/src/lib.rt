@@ -6,7 +6,7 @@ ghost use Rattle.outside.specs.Files.{Files};
 ghost use Rattle.outside.specs.TreeView.{Rises};
 ghost use Rattle.outside.specs.Calls.{IsUntouched};
 ghost use Rattle.name_choice.specs.Choice.{choice, names_of, side_of, IsWithin, IsFound};
-ghost use Rattle.name_choice.specs.Making.{told_making};
+ghost use Rattle.name_choice.specs.Making.{told_new};
 
 mod among;
 mod laws;
@@ -20,6 +20,7 @@ use crate::moved::choose_moved;
 use file_patch::FilePatch;
 use hunk_core::Side;
 pub use laws::choice_laws;
+pub use making::may_make;
 use outside::{Failed, Tree};
 pub use rank::is_better;
 
@@ -51,14 +52,14 @@ pub fn choose<T: Tree>(
     ensures cause { OnErr result (Rises (T.view tree.old) (T.view tree.new)) }
     ensures within { IfOk result (IsWithin (length patch.now.targets.items)) }
     ensures chosen { IfOk result (λ chosen. (files : Files) → (T.view tree.old).told ≡ Some files
-        → chosen ≡ choice patch.now.header.action (told_making (side_of reverse) patch.now) (names_of patch.now.targets.items) operand reverse posix files) }
+        → chosen ≡ choice patch.now.header.action (told_new patch.now) (names_of patch.now.targets.items) operand reverse posix files) }
     ensures there { IfOk result (λ chosen. (files : Files) → (T.view tree.new).told ≡ Some files → IsFound patch.now.targets.items files chosen) }
 {
     let side = side_of(reverse);
     if patch.is_moved() {
         choose_moved(&patch.targets, patch.header.action, side, tree)
     } else {
-        choose_among(patch, operand, side, posix, tree)
+        choose_among(patch, operand, posix, tree)
     }
 }
 

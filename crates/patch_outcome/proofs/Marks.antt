@@ -14,9 +14,9 @@ use Rattle.file_patch.specs.PlainPatch.{row_count, hunk_count, change_of}
 use Rattle.patch_options.specs.PlainJob.{PlainOptions}
 use Rattle.patch_set.specs.declared.set.Row.{Row}
 use Rattle.patch_set.specs.SetView.{SetView, hunks_in, with_row}
-use Rattle.patch_task.specs.Turns.{Mark, PlainTurn}
+use Rattle.patch_task.specs.Turns.{Mark}
 use Rattle.patch_outcome.specs.Outcome.{mark_of}
-use Rattle.patch_task.specs.Ready.{item_of, alone}
+use Rattle.patch_task.specs.Ready.{alone}
 use Rattle.patch_outcome.specs.Ready.{AreNumbered, mark_in, marks, rows_in, turn_at}
 
 -- ---- where verdicts lie
@@ -74,25 +74,20 @@ zip-next zero (q ∷ ps) (s ∷ rs) p r lt long at = ap (λ (x : FilePatch). (x,
 zip-next (suc k) (q ∷ ps) (s ∷ rs) p r lt long at = ap (λ (l : List (FilePatch × Row)). (q, s) ∷ l) (zip-next k ps rs p r (omega (arith, lt)) (omega (arith, long)) at)
 
 -- marks of file patches whose verdicts stay
-marks-kept : (o : PlainOptions) (v w : SetView) (vs ws : List Verdict) (n : ℕ) (ps : List FilePatch) (rs : List Row) → w.text ≡ v.text → w.output ≡ v.output → w.skipped ≡ v.skipped → All (EndsWithin n) ps → take n ws ≡ take n vs
-    → map (mark_in o w ws) (zip ps rs) ≡ map (mark_in o v vs) (zip ps rs)
-marks-kept o v w vs ws n [] rs text output skips within same = refl
-marks-kept o v w vs ws n (p ∷ ps) [] text output skips within same = refl
-marks-kept o v w vs ws n (p ∷ ps) (r ∷ rs) text output skips within same =
-    let turn : alone o w p ≡ alone o v p =
-    ap (λ x. record { options = o; output = x; item = item_of w.text w.skipped p; past = [] }) output
-    ∙ ap (λ (x : List ℕ). record { options = o; output = v.output; item = item_of x w.skipped p; past = [] }) text
-    ∙ ap (λ (x : List ℕ). record { options = o; output = v.output; item = item_of v.text x p; past = [] }) skips in
+marks-kept : (o : PlainOptions) (v : SetView) (vs ws : List Verdict) (n : ℕ) (ps : List FilePatch) (rs : List Row) → All (EndsWithin n) ps → take n ws ≡ take n vs
+    → map (mark_in o v ws) (zip ps rs) ≡ map (mark_in o v vs) (zip ps rs)
+marks-kept o v vs ws n [] rs within same = refl
+marks-kept o v vs ws n (p ∷ ps) [] within same = refl
+marks-kept o v vs ws n (p ∷ ps) (r ∷ rs) within same =
     let rows : rows_in ws p ≡ rows_in vs p = rows-front vs ws n p (All-head (EndsWithin n) p ps within) same in
-    let head : mark_in o w ws (p, r) ≡ mark_in o v vs (p, r) = ap (λ (t : PlainTurn). mark_of t r (rows_in ws p)) turn ∙ ap (λ (l : List Verdict). mark_of (alone o v p) r l) rows in
-    ap (λ (m : Mark). m ∷ map (mark_in o w ws) (zip ps rs)) head
-    ∙ ap (λ (l : List Mark). mark_in o v vs (p, r) ∷ l) (marks-kept o v w vs ws n ps rs text output skips (All-tail (EndsWithin n) p ps within) same)
+    ap (λ (l : List Verdict). mark_of (alone o v p) r l ∷ map (mark_in o v ws) (zip ps rs)) rows
+    ∙ ap (λ (l : List Mark). mark_in o v vs (p, r) ∷ l) (marks-kept o v vs ws n ps rs (All-tail (EndsWithin n) p ps within) same)
 
 -- where only verdicts behind them change
 marks-front : (o : PlainOptions) (v : SetView) (k n : ℕ) (vs ws : List Verdict) → AreNumbered 0 v.patches → hunks_in (take k v.patches) ≤ n → take n ws ≡ take n vs → marks o v k ws ≡ marks o v k vs
 unfolding marks
 marks-front o v k n vs ws is le same =
-    marks-kept o v v vs ws n (take k v.patches) v.rows refl refl refl (numbered-within 0 n (take k v.patches) (numbered-take 0 k v.patches is) (omega (arith, le))) same
+    marks-kept o v vs ws n (take k v.patches) v.rows (numbered-within 0 n (take k v.patches) (numbered-take 0 k v.patches is) (omega (arith, le))) same
 
 -- so the verdicts in front of those of the next one tell as much
 pub marks-before : (o : PlainOptions) (v : SetView) (k : ℕ) (p : FilePatch) (vs front : List Verdict) → AreNumbered 0 v.patches → k < length v.patches → p ≡ get_or v.patches k p → front ≡ take p.first_verdict vs → marks o v k front ≡ marks o v k vs
@@ -117,7 +112,7 @@ marks-next o v k p r vs ws is lt long at same =
     ap (λ n. map (mark_in o v ws) (zip (take n v.patches) (set v.rows k r))) (add-one k)
     ∙ ap (λ (l : List (FilePatch × Row)). map (mark_in o v ws) l) (zip-next k v.patches v.rows p r lt long at)
     ∙ map_push (mark_in o v ws) (zip (take k v.patches) v.rows) (p, r)
-    ∙ ap (λ (l : List Mark). l ++ mark_in o v ws (p, r) ∷ []) (marks-kept o v v vs ws p.first_verdict (take k v.patches) v.rows refl refl refl within same)
+    ∙ ap (λ (l : List Mark). l ++ mark_in o v ws (p, r) ∷ []) (marks-kept o v vs ws p.first_verdict (take k v.patches) v.rows within same)
     ∙ ap (λ (m : Mark). map (mark_in o v vs) (zip (take k v.patches) v.rows) ++ m ∷ []) (mark-alone o v k vs p r (rows_in ws p))
 
 -- ---- the place of a file patch among the verdicts

@@ -12,7 +12,7 @@ use Rattle.patch_set.specs.declared.set.Row.{Row}
 use Rattle.patch_set.specs.SetView.{SetView}
 use Rattle.patch_task.specs.Turns.{Mark, PlainTurn}
 use Rattle.patch_outcome.specs.Outcome.{mark_of, was_written}
-pub use Rattle.patch_task.specs.Ready.{item_of, IsFit, alone, IsReady}
+pub use Rattle.patch_task.specs.Ready.{item_of, moved_in, IsFit, alone, IsReady}
 
 -- the verdicts on the hunks of a file patch
 abbrev pub rows_in : List Verdict → FilePatch → List Verdict
@@ -41,4 +41,4 @@ AreNumbered before (p ∷ ps) = (p.first_verdict ≡ before) × AreNumbered (bef
 
 -- a file patch whose turn it is in a set, so many having had theirs
 abbrev pub turn_at : PlainOptions → SetView → ℕ → List Verdict → FilePatch → PlainTurn
-turn_at o v count verdicts p = record { options = o; output = v.output; item = item_of v.text v.skipped p; past = marks o v count verdicts }
+turn_at o v count verdicts p = record { options = o; output = v.output; item = item_of v.text v.skipped (moved_in v.patches) p; past = marks o v count verdicts }

@@ -20,7 +20,7 @@ ghost use Rattle.patch_task.specs.Making.{Makes, GoesQuietly, IsGone, IsTidy};
 ghost use Rattle.patch_task.specs.Named.{IsNamed};
 ghost use Rattle.patch_outcome.specs.TurnView.{plain_turn, IsTurn};
 
-use crate::past::{is_same, was_written};
+use crate::past::was_written;
 use crate::rejects::put_rejects;
 use crate::saying::{is_taken_away, is_unrejected};
 use crate::turn::Turn;
@@ -30,7 +30,8 @@ use hunk_core::{Side, Verdict};
 use outside::{Failed, Tree};
 use patch_options::Options;
 use patch_task::{
-    Made, RunFault, acts_new, is_bare, keep_old, renames, takes_files, write_moved, write_placed,
+    Made, RunFault, acts_new, is_bare, is_same, keep_old, renames, takes_files, write_moved,
+    write_placed,
 };
 use replace_file::Temp;
 

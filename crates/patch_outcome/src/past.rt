@@ -1,6 +1,6 @@
 //! What the file patches before one did.
 
-ghost use Rattle.std.specs.Prelude.{◌≡◌, ◌<◌, ◌≤◌, ◌+◌, ◌^◌, All, length, slice_index_or, bytes_eq, option_map};
+ghost use Rattle.std.specs.Prelude.{◌≡◌, ◌<◌, ◌≤◌, ◌+◌, ◌^◌, All, length, slice_index_or, option_map};
 ghost use Rattle.std.specs.Option.{ForSome, option_copied};
 ghost use Rattle.file_patch.specs.PlainPatch.{row_count};
 ghost use Rattle.patch_task.specs.Turns.{Mark, written_by, renamed_by};
@@ -17,7 +17,7 @@ use file_patch::{FilePatch, Target};
 use hunk_core::Verdict;
 use outside::Name;
 use patch_set::{PatchSet, Row};
-use patch_task::{renames, target_in, written_at};
+use patch_task::{is_same, renames, target_in, written_at};
 
 /// A file patch before one, and what was done with it.
 #[derive(Drop)]
@@ -131,11 +131,4 @@ fn is_name(name: &Name, target: Option<&Target>) -> bool
         Some(target) => is_same(name, &target.name),
         None => false,
     }
-}
-
-/// Whether two names are equal.
-pub fn is_same(one: &Name, other: &Name) -> bool
-    ensures { result ≡ bytes_eq one.now other.now }
-{
-    one.text().as_bytes() == other.text().as_bytes()
 }

@@ -20,14 +20,14 @@ ghost use Rattle.patch_task.specs.Named.{IsNamed};
 ghost use Rattle.patch_task.specs.Ready.{IsFit, alone};
 ghost use Rattle.patch_outcome.specs.TurnView.{plain_turn, IsTurn};
 
-use crate::past::{Earlier, earlier_patch, is_same, written_by};
+use crate::past::{Earlier, earlier_patch, written_by};
 use crate::saying::is_unrejected;
 use crate::turn::Turn;
 use file_patch::{FilePatch, Target};
 use hunk_core::{Form, Side, Verdict};
 use outside::{Failed, Name, Sink, Tree};
 use patch_options::Options;
-use patch_task::{RunFault, shown};
+use patch_task::{RunFault, is_same, shown};
 use reject_text::put_reject;
 use replace_file::{Temp, TempSink, begin_temp, put_begun};
 

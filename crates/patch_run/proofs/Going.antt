@@ -24,7 +24,7 @@ use Rattle.patch_task.specs.declared.fault.RunFault.TheVariants.{Tree, Write, Sc
 use Rattle.patch_run.specs.declared.one_patch.Done.{Done}
 use Rattle.patch_start.specs.Devices.{Told, HasRunCause, scratch_with}
 use Rattle.patch_run.specs.OnePatch.{Item, Mark, PlainTurn, Story, Ending, ending, mark_of}
-use Rattle.patch_run.specs.Run.{Run, run_on, turn_of, with_story, with_ending, run_of, item_of, items_of, set_run}
+use Rattle.patch_run.specs.Run.{Run, run_on, turn_of, with_story, with_ending, run_of, item_of, moved_in, items_of, set_run}
 use Rattle.patch_outcome.specs.Ready.{AreNumbered, marks, rows_in, turn_at}
 use Rattle.patch_task.specs.Making.{IsTidy, UnlessFailed}
 use Rattle.patch_run.specs.Doing.{Stays, IsDone, IsEnded, IsBroken, IsFar, IsCutOff, IsOrdered, IsCutAt, said_of, scratch_behind, StaysSet}
@@ -102,16 +102,16 @@ at_none u a c scratch_after o v vs f quiet told = record {
   scratch = refl;
 }
 
-item-next : (v : SetView) (k : ℕ) (p : FilePatch) → k < length v.patches → p ≡ get_or v.patches k p → take (k + 1) (items_of v) ≡ take k (items_of v) ++ item_of v.text v.skipped p ∷ []
+item-next : (v : SetView) (k : ℕ) (p : FilePatch) → k < length v.patches → p ≡ get_or v.patches k p → take (k + 1) (items_of v) ≡ take k (items_of v) ++ item_of v.text v.skipped (moved_in v.patches) p ∷ []
 item-next v k p lt at =
-    take-map (item_of v.text v.skipped) (k + 1) v.patches
-    ∙ map_more (item_of v.text v.skipped) v.patches k p lt
-    ∙ ap (λ (x : FilePatch). map (item_of v.text v.skipped) (take k v.patches) ++ item_of v.text v.skipped x ∷ []) (sym at)
-    ∙ ap (λ (l : List Item). l ++ item_of v.text v.skipped p ∷ []) (sym (take-map (item_of v.text v.skipped) k v.patches))
+    take-map (item_of v.text v.skipped (moved_in v.patches)) (k + 1) v.patches
+    ∙ map_more (item_of v.text v.skipped (moved_in v.patches)) v.patches k p lt
+    ∙ ap (λ (x : FilePatch). map (item_of v.text v.skipped (moved_in v.patches)) (take k v.patches) ++ item_of v.text v.skipped (moved_in v.patches) x ∷ []) (sym at)
+    ∙ ap (λ (l : List Item). l ++ item_of v.text v.skipped (moved_in v.patches) p ∷ []) (sym (take-map (item_of v.text v.skipped (moved_in v.patches)) k v.patches))
 
-items-around : (v : SetView) (k : ℕ) (p : FilePatch) → k < length v.patches → p ≡ get_or v.patches k p → take k (items_of v) ++ item_of v.text v.skipped p ∷ drop (k + 1) (items_of v) ≡ items_of v
+items-around : (v : SetView) (k : ℕ) (p : FilePatch) → k < length v.patches → p ≡ get_or v.patches k p → take k (items_of v) ++ item_of v.text v.skipped (moved_in v.patches) p ∷ drop (k + 1) (items_of v) ≡ items_of v
 items-around v k p lt at =
-    sym (append_assoc (take k (items_of v)) (item_of v.text v.skipped p ∷ []) (drop (k + 1) (items_of v)))
+    sym (append_assoc (take k (items_of v)) (item_of v.text v.skipped (moved_in v.patches) p ∷ []) (drop (k + 1) (items_of v)))
     ∙ ap (λ (l : List Item). l ++ drop (k + 1) (items_of v)) (sym (item-next v k p lt at))
     ∙ take-append-drop (k + 1) (items_of v)
 
@@ -124,9 +124,9 @@ pub record IsNext (v : SetView) (k : ℕ) (p : FilePatch) (vs ws : List Verdict)
   pub before : take p.first_verdict ws ≡ take p.first_verdict vs
 
 module _ (o : PlainOptions) (v : SetView) (k : ℕ) (p : FilePatch) (vs ws : List Verdict) (next : IsNext v k p vs ws) where
-  same-turn : (r : Run) → r.past ≡ marks o v k vs → turn_of o v.output r (item_of v.text v.skipped p) ≡ turn_at o v k vs p
+  same-turn : (r : Run) → r.past ≡ marks o v k vs → turn_of o v.output r (item_of v.text v.skipped (moved_in v.patches) p) ≡ turn_at o v k vs p
   same-turn r past =
-      let turn : List Mark → PlainTurn = λ l. record { options = o; output = v.output; item = item_of v.text v.skipped p; past = l } in
+      let turn : List Mark → PlainTurn = λ l. record { options = o; output = v.output; item = item_of v.text v.skipped (moved_in v.patches) p; past = l } in
       ap turn past
 
   at_story : {u x w : TreeView} {a b b' : Seen} {c d e : SinkView} {scratch_after : ℕ → List ℕ → Option (List ℕ) → Option (List ℕ)} {is_bad : Bool} {count : ℕ} (r : Run) (done : Done) (s : Story) → b.size ≡ a.size → IsAt u x a b c d scratch_after o v k vs is_bad count r
@@ -171,7 +171,7 @@ module _ (o : PlainOptions) (v : SetView) (k : ℕ) (p : FilePatch) (vs ws : Lis
         let t = turn_at o v k vs p in
         let is : run_to o v (k + 1) f ≡ with_story t r came.story =
         ap (λ (l : List Item). run_of o v.output l f) (item-next v k p next.within next.at)
-        ∙ run-next o v.output (take k (items_of v)) (item_of v.text v.skipped p) t f at.going (same-turn r at.past)
+        ∙ run-next o v.output (take k (items_of v)) (item_of v.text v.skipped (moved_in v.patches) p) t f at.going (same-turn r at.past)
         ∙ ap (λ (y : Ending). with_ending t r y) came.is in
         subst (λ (s : Run). IsAt u w a b' c e scratch_after o (with_row v k done.row) (k + 1) ws (is_bad || done.is_bad) (count + done.effects) s) (sym is)
         (at_story r done came.story size at came.does came.scratch)
@@ -180,21 +180,21 @@ module _ (o : PlainOptions) (v : SetView) (k : ℕ) (p : FilePatch) (vs ws : Lis
     at_fault fault passes broken =
         let r = run_to o v k f in
         subst (λ (l : List Item). IsCutOff fault u w c e (run_of o v.output l f)) (items-around v k p next.within next.at)
-        (cut_off o v.output (take k (items_of v)) (item_of v.text v.skipped p) (turn_at o v k vs p) f at.going (same-turn r at.past) u x w c d e (drop (k + 1) (items_of v)) at.far passes fault broken)
+        (cut_off o v.output (take k (items_of v)) (item_of v.text v.skipped (moved_in v.patches) p) (turn_at o v k vs p) f at.going (same-turn r at.past) u x w c d e (drop (k + 1) (items_of v)) at.far passes fault broken)
 
     pub at_cut : (fault : RunFault) → Passes x w → IsBroken fault x w d e (run_to o v k f).files (ending (turn_at o v k vs p) (run_to o v k f).files) → IsOrdered fault x w d e (said_of (ending (turn_at o v k vs p) (run_to o v k f).files))
         → UnlessFailed fault (w.told ≡ Some (run_to o v k f).files) → IsCutAt fault w c e o v.output (items_of v) f
     at_cut fault passes broken order kept =
         let r = run_to o v k f in
         subst (λ (l : List Item). IsCutAt fault w c e o v.output l f) (items-around v k p next.within next.at)
-        (cut_here o v.output (take k (items_of v)) (item_of v.text v.skipped p) (turn_at o v k vs p) f at.going (same-turn r at.past) u x w c d e (drop (k + 1) (items_of v)) at.far passes fault broken order kept)
+        (cut_here o v.output (take k (items_of v)) (item_of v.text v.skipped (moved_in v.patches) p) (turn_at o v k vs p) f at.going (same-turn r at.past) u x w c d e (drop (k + 1) (items_of v)) at.far passes fault broken order kept)
 
 -- the set whose rows were noted has the same file patches
 pub same-items : (old new : SetView) → StaysSet old new → items_of new ≡ items_of old
 same-items old new stays =
-    ap (λ (l : List ℕ). map (item_of l new.skipped) new.patches) stays.text
-    ∙ ap (λ (l : List ℕ). map (item_of old.text l) new.patches) stays.skipped
-    ∙ ap (λ (l : List FilePatch). map (item_of old.text old.skipped) l) stays.patches
+    ap (λ (l : List ℕ). map (item_of l new.skipped (moved_in new.patches)) new.patches) stays.text
+    ∙ ap (λ (l : List ℕ). map (item_of old.text l (moved_in new.patches)) new.patches) stays.skipped
+    ∙ ap (λ (l : List FilePatch). map (item_of old.text old.skipped (moved_in l)) l) stays.patches
 
 pub same-run : (o : PlainOptions) (old new : SetView) (f : Files) → StaysSet old new → set_run o new f ≡ set_run o old f
 same-run o old new f stays =
@@ -202,4 +202,4 @@ same-run o old new f stays =
     ∙ ap (λ (l : List Item). run_of o old.output l f) (same-items old new stays)
 
 pub all-run : (o : PlainOptions) (v : SetView) (k : ℕ) (f : Files) → k ≡ length v.patches → run_to o v k f ≡ set_run o v f
-all-run o v k f all = ap (λ (l : List Item). run_of o v.output l f) (take_all k (items_of v) (omega (arith, all, length-map v.patches (item_of v.text v.skipped))))
+all-run o v k f all = ap (λ (l : List Item). run_of o v.output l f) (take_all k (items_of v) (omega (arith, all, length-map v.patches (item_of v.text v.skipped (moved_in v.patches)))))

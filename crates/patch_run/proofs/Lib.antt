@@ -9,7 +9,6 @@ mod EndCause
 mod DoneNone
 mod BackedUp
 mod Renaming
-mod Forcing
 mod SaidFirst
 mod Keeping
 mod Skipping

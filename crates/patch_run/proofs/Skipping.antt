@@ -1,5 +1,5 @@
 -- When a file patch is skipped.
-use Rattle.std.proofs.Common.{◌≡◌, ◌↔◌, ℕ, List, [], Bool, true, false, not, ◌&&◌, ◌||◌, if◌then◌else◌, Option, None, Some, is_none, refl, sym, ◌∙◌, ap}
+use Rattle.std.proofs.Common.{◌≡◌, ◌⊎◌, inl, inr, ◌↔◌, ℕ, List, [], Bool, true, false, not, ◌&&◌, ◌||◌, if◌then◌else◌, Option, None, Some, is_none, is_some, refl, sym, ◌∙◌, ap}
 use Rattle.std.proofs.lemmas.Bool.{false≢true}
 use Rattle.outside.specs.Files.{Files}
 use Rattle.hunk_core.specs.declared.Side.{Side}
@@ -9,8 +9,11 @@ use Rattle.name_choice.specs.Choice.{side_of}
 use Rattle.name_choice.specs.declared.Choice.{Choice}
 use Rattle.name_choice.specs.declared.Choice.TheVariants.{Existing, Create, Nothing}
 use Rattle.say_text.specs.Messages.{silenced, reversed_line}
-use Rattle.patch_run.specs.OnePatch.{PlainTurn, Start, skips, refuses, tries, said_first, skips_at, lines_in, first_hunk, is_reversed, turns_round, on_direction, lacks_word, prereq_said, on_prereq, refusal_of, refused_or, on_taking, exists_said, on_existing, is_in_the_way, on_creation, patching_said, on_target, on_choice, choice_of, skipped_said, own_start, start, bytes_of}
-use Rattle.patch_run.specs.Laws.{IsSkip, is_taken, is_unsuited, is_skipped}
+use Rattle.say_text.specs.declared.standing.Standing.{Standing}
+use Rattle.patch_run.specs.OnePatch.{PlainTurn, Start, skips, refuses, tries, said_first, skips_at, lines_in, first_hunk, is_reversed, turns_round, on_direction, lacks_word, prereq_said, on_prereq, refusal_of, refused_or, on_taking, unfit, unfit_said, on_misfit, is_needed, is_forced, on_fitting, on_file, patching_said, on_target, on_choice, choice_of, skipped_said, own_start, start, bytes_of, written}
+use Rattle.patch_task.specs.Asking.{moves}
+use Rattle.patch_task.specs.Turns.{is_source}
+use Rattle.patch_run.specs.Laws.{IsSkip, is_taken, is_over_needed, is_unsuited, is_skipped, goes_over_needed}
 
 abbrev is_skip : Start → Bool
 is_skip (skips said row taken) = true
@@ -48,30 +51,41 @@ by_direction force was rev turns = if force || was || not rev then false else (i
 abbrev by_word : Bool → Bool → Bool → Bool → Bool → Bool
 by_word force was lacks rev turns = if not lacks then by_direction force was rev turns else (if force then by_direction force was rev turns else true)
 
-abbrev by_all : Bool → Bool → Bool → Bool → Bool → Bool → Bool → Bool
-by_all force way taken lacks rev turns other = if not way || force then taken && by_word force false lacks rev turns else (if turns then taken && by_word force true lacks other turns else true)
+abbrev by_all : Bool → Bool → Bool → Bool → Bool → Bool → Bool → Bool → Bool
+by_all force way needed taken lacks rev turns other = if not way || (force && not needed) then taken && by_word force false lacks rev turns else (if turns then taken && by_word force true lacks other turns else true)
 
--- they are the one test that the law says
-same_tests : (force way taken lacks rev turns other : Bool) → by_all force way taken lacks rev turns other ≡ (not force && (((way || (taken && rev)) && not turns) || (taken && lacks)))
-same_tests true false false lacks rev turns other = refl
-same_tests true false true true rev turns other = refl
-same_tests true false true false rev turns other = refl
-same_tests true true false lacks rev turns other = refl
-same_tests true true true true rev turns other = refl
-same_tests true true true false rev turns other = refl
-same_tests false false false lacks rev turns other = refl
-same_tests false false true true false turns other = refl
-same_tests false false true true true true other = refl
-same_tests false false true true true false other = refl
-same_tests false false true false false turns other = refl
-same_tests false false true false true true other = refl
-same_tests false false true false true false other = refl
-same_tests false true false lacks rev true other = refl
-same_tests false true false lacks rev false other = refl
-same_tests false true true true rev true other = refl
-same_tests false true true true rev false other = refl
-same_tests false true true false rev true other = refl
-same_tests false true true false rev false other = refl
+-- they are the one test that the law says; what moves a file is never turned round
+same_tests : (force way needed taken lacks rev turns other : Bool) → (needed && turns) ≡ false
+    → by_all force way needed taken lacks rev turns other ≡ ((way && needed) || (not force && (((way || (taken && rev)) && not turns) || (taken && lacks))))
+same_tests true false needed false lacks rev turns other never = refl
+same_tests true false needed true true rev turns other never = refl
+same_tests true false needed true false rev turns other never = refl
+same_tests true true false false lacks rev turns other never = refl
+same_tests true true false true true rev turns other never = refl
+same_tests true true false true false rev turns other never = refl
+same_tests true true true taken lacks rev false other never = refl
+same_tests true true true taken lacks rev true other never = absurd cc
+same_tests false false needed false lacks rev turns other never = refl
+same_tests false false needed true true false turns other never = refl
+same_tests false false needed true true true true other never = refl
+same_tests false false needed true true true false other never = refl
+same_tests false false needed true false false turns other never = refl
+same_tests false false needed true false true true other never = refl
+same_tests false false needed true false true false other never = refl
+same_tests false true false false lacks rev true other never = refl
+same_tests false true false false lacks rev false other never = refl
+same_tests false true false true true rev true other never = refl
+same_tests false true false true true rev false other never = refl
+same_tests false true false true false rev true other never = refl
+same_tests false true false true false rev false other never = refl
+same_tests false true true taken lacks rev false other never = refl
+same_tests false true true taken lacks rev true other never = absurd cc
+
+needed_stays : (moved source turns : Bool) → ((moved && source) && (turns && not moved)) ≡ false
+needed_stays false source turns = refl
+needed_stays true false turns = refl
+needed_stays true true true = refl
+needed_stays true true false = refl
 
 module _ (t : PlainTurn) (k : ℕ) where
   skip_direction : (bytes : Option (List ℕ)) (was : Bool) (side : Side)
@@ -102,26 +116,34 @@ module _ (t : PlainTurn) (k : ℕ) where
       skip_refused (refusal_of t.options.buffer bytes) (on_prereq t k bytes was side)
       ∙ ap (λ b. is_none (refusal_of t.options.buffer bytes) && b) (skip_prereq bytes was side)
 
+  -- what stands there if it misfits that
+  skip_fitting : (bytes : Option (List ℕ)) (side : Side) (stands : Option Standing)
+      → is_skip (on_fitting t k bytes side stands)
+      ≡ by_all t.options.force (is_some stands) (is_needed t k) (is_none (refusal_of t.options.buffer bytes)) (lacks_word t.item.patch.header.prereq bytes)
+      (is_reversed t.options (lines_in bytes) side (first_hunk t.item.patch.change)) (turns_round t) (is_reversed t.options (lines_in bytes) (other_side side) (first_hunk t.item.patch.change))
+  skip_fitting bytes side None = skip_taking bytes false side
+  skip_fitting bytes side (Some stands) =
+      let force = t.options.force in
+      let goes = is_forced t k in
+      let turns = turns_round t in
+      let taking = on_taking t k bytes true (other_side side) in
+      let turned = said_first (unfit_said t stands k true) taking in
+      let stop = skips_at (unfit_said t stands k false) k side None in
+      skip_if goes (on_taking t k bytes false side) (on_misfit t stands k bytes side)
+      ∙ ap (λ b. if goes then b else is_skip (on_misfit t stands k bytes side)) (skip_taking bytes false side)
+      ∙ ap (λ b. if goes then is_none (refusal_of t.options.buffer bytes) && by_word force false (lacks_word t.item.patch.header.prereq bytes) (is_reversed t.options (lines_in bytes) side (first_hunk t.item.patch.change)) turns else b)
+      (skip_if turns turned stop ∙ ap (λ b. if turns then b else true) (skip_first (unfit_said t stands k true) taking ∙ skip_taking bytes true (other_side side)))
+
   skip_target : (f : Files) → is_skip (on_target t f k) ≡ is_unsuited t f k
   skip_target f =
       let side = side_of t.options.reverse in
       let bytes = bytes_of t f k in
-      let force = t.options.force in
-      let turns = turns_round t in
-      let way = is_in_the_way t f k side in
-      let goes = not way || force in
-      let lacks = lacks_word t.item.patch.header.prereq bytes in
       let rev = is_reversed t.options (lines_in bytes) side (first_hunk t.item.patch.change) in
       let other = is_reversed t.options (lines_in bytes) (other_side side) (first_hunk t.item.patch.change) in
-      let taking = on_taking t k bytes true (other_side side) in
-      let turned = said_first (exists_said t k true) taking in
-      let stop = skips_at (exists_said t k false) k side None in
-      skip_first (patching_said t k) (on_creation t f k side)
-      ∙ skip_if goes (on_taking t k bytes false side) (on_existing t k bytes side)
-      ∙ ap (λ b. if goes then b else is_skip (on_existing t k bytes side)) (skip_taking bytes false side)
-      ∙ ap (λ b. if goes then is_taken t f k && by_word force false lacks rev turns else b)
-      (skip_if turns turned stop ∙ ap (λ b. if turns then b else true) (skip_first (exists_said t k true) taking ∙ skip_taking bytes true (other_side side)))
-      ∙ same_tests force way (is_taken t f k) lacks rev turns other
+      skip_first (patching_said t k) (on_file t f k side)
+      ∙ skip_fitting bytes side (unfit t f k side)
+      ∙ same_tests t.options.force (is_some (unfit t f k side)) (is_needed t k) (is_taken t f k) (lacks_word t.item.patch.header.prereq bytes) rev (turns_round t) other
+      (needed_stays (moves t.item.patch) (is_source t (written t k).name) (t.options.batch && not t.options.forward))
 
 skip_choice : (t : PlainTurn) (f : Files) (c : Choice) → is_skip (on_choice t f c) ≡ is_skipped t f c
 skip_choice t f (Existing k) = skip_target t k f
@@ -135,3 +157,31 @@ skipped_as t f =
     let said = said_first (skipped_said t) (own_start t f) in
     let same : is_skip said ≡ is_skipped t f c = skip_first (skipped_said t) (own_start t f) ∙ skip_choice t f c in
     (λ is. sym same ∙ skip_is said is, λ is. is_of said (same ∙ is))
+
+-- ---- with `-f`
+
+forced_only : (over force rest : Bool) → force ≡ true → (over || (not force && rest)) ≡ true → over ≡ true
+forced_only true force rest forced is = refl
+forced_only false true rest forced is = is
+forced_only false false rest forced is = absurd cc
+
+over_skips : (over rest : Bool) → over ≡ true → (over || rest) ≡ true
+over_skips true rest is = refl
+over_skips false rest is = absurd (false≢true is)
+
+forced_choice : (t : PlainTurn) (f : Files) (c : Choice) → t.options.force ≡ true → is_skipped t f c ≡ true → (c ≡ Nothing) ⊎ (goes_over_needed t f c ≡ true)
+forced_choice t f (Existing k) forced is = inr (forced_only (is_over_needed t f k) t.options.force _ forced is)
+forced_choice t f (Create k) forced is = inr (forced_only (is_over_needed t f k) t.options.force _ forced is)
+forced_choice t f Nothing forced is = inl refl
+
+needed_choice : (t : PlainTurn) (f : Files) (c : Choice) → goes_over_needed t f c ≡ true → is_skipped t f c ≡ true
+needed_choice t f (Existing k) is = over_skips (is_over_needed t f k) _ is
+needed_choice t f (Create k) is = over_skips (is_over_needed t f k) _ is
+needed_choice t f Nothing is = refl
+
+-- a file patch is skipped only where no name results, or where it would go over a file that is needed
+pub forced_skip : (t : PlainTurn) (f : Files) → t.options.force ≡ true → IsSkip (start t f) → (choice_of t f ≡ Nothing) ⊎ (goes_over_needed t f (choice_of t f) ≡ true)
+forced_skip t f forced is = forced_choice t f (choice_of t f) forced ((skipped_as t f).0 is)
+
+pub needed_skip : (t : PlainTurn) (f : Files) → goes_over_needed t f (choice_of t f) ≡ true → IsSkip (start t f)
+needed_skip t f is = (skipped_as t f).1 (needed_choice t f (choice_of t f) is)

@@ -15,7 +15,7 @@ use Rattle.name_choice.specs.declared.Choice.TheVariants.{Existing, Create, Noth
 use Rattle.file_patch.specs.declared.derived.Target.{Target}
 use Rattle.patch_set.specs.declared.set.Row.{Row}
 use Rattle.patch_task.specs.Asking.{renames}
-use Rattle.patch_run.specs.OnePatch.{Item, Mark, PlainTurn, Start, skips, refuses, tries, Ending, ended, stopped, target_at, written_by, renamed_by, bytes_of, lines_in, first_hunk, is_reversed, turns_round, lacks_word, refusal_of, is_in_the_way, is_name, finished_at}
+use Rattle.patch_run.specs.OnePatch.{Item, Mark, PlainTurn, Start, skips, refuses, tries, Ending, ended, stopped, target_at, written_by, renamed_by, bytes_of, lines_in, first_hunk, is_reversed, turns_round, lacks_word, refusal_of, unfit, is_needed, is_name, finished_at}
 use Rattle.patch_run.specs.Run.{files_after}
 
 -- ---- when a file patch is skipped
@@ -34,17 +34,27 @@ is_taken t files k = is_none (refusal_of t.options.buffer (bytes_of t files k))
 abbrev pub is_reversed_at : PlainTurn → Files → ℕ → Bool
 is_reversed_at t files k = is_reversed t.options (lines_in (bytes_of t files k)) (side_of t.options.reverse) (first_hunk t.item.patch.change)
 
--- it looks as if it was applied before: a file stands where one is made, or its first hunk looks reversed in a file that can be taken
+-- it looks as if it was applied before: it misfits its file, or its first hunk looks reversed in a file that can be taken
 abbrev pub looks_applied : PlainTurn → Files → ℕ → Bool
-looks_applied t files k = is_in_the_way t files k (side_of t.options.reverse) || (is_taken t files k && is_reversed_at t files k)
+looks_applied t files k = is_some (unfit t files k (side_of t.options.reverse)) || (is_taken t files k && is_reversed_at t files k)
 
 -- a file that can be taken lacks the word of its `Prereq:` line
 abbrev pub is_unready : PlainTurn → Files → ℕ → Bool
 is_unready t files k = is_taken t files k && lacks_word t.item.patch.header.prereq (bytes_of t files k)
 
--- with `-f` it isn't skipped; else where it looks applied and isn't turned round, or the word is missing
+-- a file with bytes, which a file patch of the text renames or copies, stands where a file would be renamed or copied to
+abbrev pub is_over_needed : PlainTurn → Files → ℕ → Bool
+is_over_needed t files k = is_some (unfit t files k (side_of t.options.reverse)) && is_needed t k
+
+-- it is skipped there, with `-f` too; without `-f` also where it looks applied and isn't turned round, or the word is missing
 abbrev pub is_unsuited : PlainTurn → Files → ℕ → Bool
-is_unsuited t files k = not t.options.force && ((looks_applied t files k && not (turns_round t)) || is_unready t files k)
+is_unsuited t files k = is_over_needed t files k || (not t.options.force && ((looks_applied t files k && not (turns_round t)) || is_unready t files k))
+
+-- a name results, and the file at it would be renamed or copied there
+abbrev pub goes_over_needed : PlainTurn → Files → Choice → Bool
+goes_over_needed t files (Existing k) = is_over_needed t files k
+goes_over_needed t files (Create k) = is_over_needed t files k
+goes_over_needed t files Nothing = false
 
 -- it is skipped where no name results, and where it doesn't suit the chosen file
 abbrev pub is_skipped : PlainTurn → Files → Choice → Bool

@@ -8,7 +8,7 @@ use Rattle.line_store.specs.declared.fault.OpenFault.{OpenFault}
 use Rattle.patch_options.specs.PlainJob.{PlainOptions}
 use Rattle.file_patch.specs.declared.derived.Target.{Target}
 use Rattle.patch_set.specs.SetView.{SetView}
-pub use Rattle.patch_task.specs.Ready.{item_of}
+pub use Rattle.patch_task.specs.Ready.{item_of, moved_in}
 use Rattle.patch_run.specs.OnePatch.{Item, Mark, PlainTurn, Story, Ending, ended, stopped, mark_of, ending}
 
 -- a run so far
@@ -78,7 +78,7 @@ abbrev pub run_of : PlainOptions → Option Target → List Item → Files → R
 run_of o output items files = run_on o output items (begun files)
 
 abbrev pub items_of : SetView → List Item
-items_of v = map (item_of v.text v.skipped) v.patches
+items_of v = map (item_of v.text v.skipped (moved_in v.patches)) v.patches
 
 -- what the set's file patches do to these files, with its options
 abbrev pub set_run : PlainOptions → SetView → Files → Run

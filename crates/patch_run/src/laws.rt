@@ -1,6 +1,6 @@
 //! What the definition of a run says, in words of its own.
 
-ghost use Rattle.std.specs.Prelude.{◌≡◌, ◌≢◌, ◌↔◌, ℕ, List, [], ◌∷◌, ◌++◌, true, false, Option, Some};
+ghost use Rattle.std.specs.Prelude.{◌≡◌, ◌≢◌, ◌⊎◌, ◌↔◌, ℕ, List, [], ◌∷◌, ◌++◌, true, false, Option, Some};
 ghost use Rattle.std.specs.List.{AllByRecursion, list_any};
 ghost use Rattle.std.specs.FinMap.{get};
 ghost use Rattle.outside.specs.Files.{Files, is_temp};
@@ -17,10 +17,11 @@ ghost use Rattle.patch_task.specs.Asking.{is_bare, renames};
 ghost use Rattle.file_patch.specs.declared.derived.Target.{Target};
 ghost use Rattle.patch_run.specs.OnePatch.{Item, PlainTurn, Tried, choice_of, tried, start, ending, target_at, written, output_on, wrote, was_written, rejected_before, is_backup_due, is_moving, is_written, written_effects};
 ghost use Rattle.patch_run.specs.Run.{run_of, turn_of};
-ghost use Rattle.patch_run.specs.Laws.{IsSkip, is_skipped, IsIgnored, IsRenamed, HasWritten, IsApart, tried_files, TakesItsSource, removed_in, keeps_files, targets_in, is_beside, is_kept_for, rejects_to};
+ghost use Rattle.patch_run.specs.Laws.{IsSkip, is_skipped, goes_over_needed, IsIgnored, IsRenamed, HasWritten, IsApart, tried_files, TakesItsSource, removed_in, keeps_files, targets_in, is_beside, is_kept_for, rejects_to};
 
-/// A file patch is skipped exactly where no name results, or where, without `-f`, it doesn't suit the chosen file: it looks as
-/// if it was applied before and isn't turned round, or a word is missing. It then has no effect, and each of its hunks is
+/// A file patch is skipped exactly where no name results, or where it would rename or copy a file onto one with bytes that a
+/// file patch of the text renames or copies, or where, without `-f`, it doesn't suit the chosen file: it looks as if it was
+/// applied before and isn't turned round, or a word is missing. It then has no effect, and each of its hunks is
 /// ignored. A dry run has no effect, and leaves the files as they are. Once a file patch has made or taken away a name, none
 /// behind it in the run backs that name up. A file that is renamed has its new bytes at its new name, and nothing is left at
 /// the old one. A file patch without hunks leaves the bytes of its file as they are. A run says before anything else which
@@ -28,7 +29,8 @@ ghost use Rattle.patch_run.specs.Laws.{IsSkip, is_skipped, IsIgnored, IsRenamed,
 pub fn run_laws()
     ensures skipped { (t : PlainTurn) (files : Files) → IsSkip (start t files) → IsIgnored (ending t files) }
     ensures unsuited { (t : PlainTurn) (files : Files) → IsSkip (start t files) ↔ (is_skipped t files (choice_of t files) ≡ true) }
-    ensures forced { (t : PlainTurn) (files : Files) → t.options.force ≡ true → IsSkip (start t files) → choice_of t files ≡ Nothing }
+    ensures forced { (t : PlainTurn) (files : Files) → t.options.force ≡ true → IsSkip (start t files) → (choice_of t files ≡ Nothing) ⊎ (goes_over_needed t files (choice_of t files) ≡ true) }
+    ensures needed { (t : PlainTurn) (files : Files) → goes_over_needed t files (choice_of t files) ≡ true → IsIgnored (ending t files) }
     ensures dry { (o : PlainOptions) (output : Option Target) (items : List Item) (files : Files) → o.dry_run ≡ true → (run_of o output items files).effects ≡ [] }
     ensures once { (o : PlainOptions) (output : Option Target) (front behind : List Item) (i j : Item) (files : Files) (w other : Target) (vs : List Verdict)
         → (run_of o output front files).stop ≡ None

@@ -10,6 +10,7 @@ use Rattle.hunk_core.specs.declared.Side.{Side}
 use Rattle.line_store.specs.declared.fault.OpenFault.{OpenFault}
 use Rattle.header_record.specs.declared.Action.{Action}
 use Rattle.file_patch.specs.declared.derived.Target.{Target}
+use Rattle.say_text.specs.declared.standing.Standing.{Standing}
 use Rattle.name_choice.specs.declared.Choice.{Choice}
 use Rattle.name_choice.specs.declared.Choice.TheVariants.{Existing, Create, Nothing}
 use Rattle.name_choice.specs.Better.{best_among}
@@ -17,7 +18,7 @@ use Rattle.name_choice.specs.Choice.{is_there, needs_fewest, first_place, existi
 use Rattle.file_patch.specs.Actions.{is_moved}
 use Rattle.patch_set.specs.declared.set.Row.{Row}
 use Rattle.patch_task.specs.Turns.{PlainTurn, bytes_of}
-use Rattle.patch_start.specs.Start.{Start, skips, refuses, tries, said_first, refused_or, on_direction, on_prereq, on_taking, on_existing, on_creation, on_target, on_choice, choice_of, skipped_said, own_start, start, is_reversed, lines_in, first_hunk, turns_round, lacks_word, is_in_the_way}
+use Rattle.patch_start.specs.Start.{Start, skips, refuses, tries, said_first, refused_or, on_direction, on_prereq, on_taking, on_misfit, on_fitting, on_file, on_target, on_choice, choice_of, skipped_said, own_start, start, is_reversed, lines_in, first_hunk, turns_round, lacks_word, unfit, is_forced}
 
 -- ---- choices
 
@@ -124,14 +125,18 @@ refused_at k (Some fault) s is = tt
 taking_at : (t : PlainTurn) (k : ℕ) (bytes : Option (List ℕ)) (was_turned : Bool) (side : Side) → IsAt k (on_taking t k bytes was_turned side)
 taking_at t k bytes was_turned side = refused_at k _ (on_prereq t k bytes was_turned side) (prereq_at t k bytes was_turned side)
 
-existing_at_place : (t : PlainTurn) (k : ℕ) (bytes : Option (List ℕ)) (side : Side) → IsAt k (on_existing t k bytes side)
-existing_at_place t k bytes side = either k (turns_round t) _ _ (first_at k _ (on_taking t k bytes true _) (taking_at t k bytes true _)) (skip_at k _ _ _)
+misfit_at : (t : PlainTurn) (k : ℕ) (stands : Standing) (bytes : Option (List ℕ)) (side : Side) → IsAt k (on_misfit t stands k bytes side)
+misfit_at t k stands bytes side = either k (turns_round t) _ _ (first_at k _ (on_taking t k bytes true _) (taking_at t k bytes true _)) (skip_at k _ _ _)
 
-creation_at : (t : PlainTurn) (f : Files) (k : ℕ) (side : Side) → IsAt k (on_creation t f k side)
-creation_at t f k side = either k (not (is_in_the_way t f k side) || t.options.force) _ _ (taking_at t k (bytes_of t f k) false side) (existing_at_place t k (bytes_of t f k) side)
+fitting_at : (t : PlainTurn) (k : ℕ) (bytes : Option (List ℕ)) (side : Side) (unfit : Option Standing) → IsAt k (on_fitting t k bytes side unfit)
+fitting_at t k bytes side None = taking_at t k bytes false side
+fitting_at t k bytes side (Some stands) = either k (is_forced t k) _ _ (taking_at t k bytes false side) (misfit_at t k stands bytes side)
+
+file_at : (t : PlainTurn) (f : Files) (k : ℕ) (side : Side) → IsAt k (on_file t f k side)
+file_at t f k side = fitting_at t k (bytes_of t f k) side (unfit t f k side)
 
 target_at_place : (t : PlainTurn) (f : Files) (k : ℕ) → IsAt k (on_target t f k)
-target_at_place t f k = first_at k _ (on_creation t f k _) (creation_at t f k _)
+target_at_place t f k = first_at k _ (on_file t f k _) (file_at t f k _)
 
 -- hunks are tried only at a place among the targets
 abbrev pub IsTriedWithin : ℕ → Start → Type 0

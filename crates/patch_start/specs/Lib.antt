@@ -1,3 +1,4 @@
+pub mod Fitting
 pub mod Start
 pub mod Devices
 pub mod Starting

@@ -8,7 +8,6 @@ use Rattle.hunk_core.specs.declared.Side.{Side}
 use Rattle.hunk_core.specs.PlainHunk.{PlainHunk}
 use Rattle.hunk_core.specs.Turned.{turned, other_side}
 use Rattle.hunk_place.specs.Verdicts.{looks_reversed}
-use Rattle.hunk_apply.specs.Written.{is_nothing}
 use Rattle.line_store.specs.declared.fault.OpenFault.{OpenFault}
 use Rattle.line_store.specs.Taking.{refusal}
 use Rattle.patch_header.specs.Values.{is_white}
@@ -18,17 +17,18 @@ use Rattle.patch_options.specs.PlainJob.{PlainOptions}
 use Rattle.file_patch.specs.declared.derived.Target.{Target}
 use Rattle.patch_set.specs.declared.set.Row.{Row}
 use Rattle.file_patch.specs.PlainPatch.{PlainChange, hunks, script}
-use Rattle.file_patch.specs.Absent.{creates}
 use Rattle.patch_set.specs.Asked.{is_posix}
 use Rattle.name_choice.specs.declared.Choice.{Choice}
 use Rattle.name_choice.specs.declared.Choice.TheVariants.{Existing, Create, Nothing}
 use Rattle.name_choice.specs.Choice.{choice, names_of, side_of}
-use Rattle.name_choice.specs.Making.{may_make}
-use Rattle.say_text.specs.Messages.{silenced, skipping_lines, patching_line, no_file_lines, prereq_line, reversed_line, exists_line}
+use Rattle.name_choice.specs.Making.{names_new}
+use Rattle.say_text.specs.Messages.{silenced, skipping_lines, patching_line, no_file_lines, prereq_line, reversed_line, unfit_line}
+use Rattle.say_text.specs.declared.standing.Standing.{Standing}
 use Rattle.say_text.specs.Origins.{PlainOrigin}
 use Rattle.say_text.specs.Origins.PlainOrigin.{Itself, RenamedFrom, CopiedFrom}
 use Rattle.patch_task.specs.Asking.{moves}
-use Rattle.patch_task.specs.Turns.{Mark, PlainTurn, target_at, written, bytes_of, shown}
+use Rattle.patch_start.specs.Fitting.{standing_of, purpose_of, misfit}
+use Rattle.patch_task.specs.Turns.{Mark, PlainTurn, target_at, written, bytes_of, shown, is_source}
 
 -- how a file patch is taken, once this was said: it is skipped, and what its row holds; or its file isn't taken; or its hunks are tried from a side
 pub data Start : Type 0 where
@@ -109,30 +109,40 @@ refused_or (Some fault) later = refuses [] fault
 abbrev pub on_taking : PlainTurn → ℕ → Option (List ℕ) → Bool → Side → Start
 on_taking t place bytes was_turned side = refused_or (refusal_of t.options.buffer bytes) (on_prereq t place bytes was_turned side)
 
--- the file is there and has bytes
-abbrev pub has_bytes : Option (List ℕ) → Bool
-has_bytes None = false
-has_bytes (Some bytes) = not (is_nothing bytes)
+-- what stands at the chosen name, or at the name that a file is to get
+abbrev pub standing : PlainTurn → Files → ℕ → Standing
+standing t files place = standing_of (if moves t.item.patch then get files (written t place).name else bytes_of t files place)
 
-abbrev pub exists_said : PlainTurn → ℕ → Bool → List ℕ
-exists_said t place is_turned = silenced t.options (exists_line (shown (written t place)) is_turned)
+-- and if the file patch misfits that
+abbrev pub unfit : PlainTurn → Files → ℕ → Side → Option Standing
+unfit t files place side = misfit (purpose_of side t.item.patch) (standing t files place)
 
--- it would be made by the file patch, which is turned round, or skipped
-abbrev pub on_existing : PlainTurn → ℕ → Option (List ℕ) → Side → Start
-on_existing t place bytes side =
-    if turns_round t then said_first (exists_said t place true) (on_taking t place bytes true (other_side side))
-    else skips_at (exists_said t place false) place side None
+abbrev pub unfit_said : PlainTurn → Standing → ℕ → Bool → List ℕ
+unfit_said t stands place is_turned = silenced t.options (unfit_line stands (shown (written t place)) is_turned)
 
--- a file with bytes stands where one is made: at the chosen name, or at the name that a file is to get
-abbrev pub is_in_the_way : PlainTurn → Files → ℕ → Side → Bool
-is_in_the_way t files place side = if moves t.item.patch then has_bytes (get files (written t place).name)
-    else creates side t.item.patch && has_bytes (bytes_of t files place)
+-- a file patch that misfits its file is turned round, or skipped
+abbrev pub on_misfit : PlainTurn → Standing → ℕ → Option (List ℕ) → Side → Start
+on_misfit t stands place bytes side =
+    if turns_round t then said_first (unfit_said t stands place true) (on_taking t place bytes true (other_side side))
+    else skips_at (unfit_said t stands place false) place side None
 
--- with `-f` that isn't asked
-abbrev pub on_creation : PlainTurn → Files → ℕ → Side → Start
-on_creation t files place side =
-    if not (is_in_the_way t files place side) || t.options.force then on_taking t place (bytes_of t files place) false side
-    else on_existing t place (bytes_of t files place) side
+-- a file would be renamed or copied onto one that a file patch of the text renames or copies
+abbrev pub is_needed : PlainTurn → ℕ → Bool
+is_needed t place = moves t.item.patch && is_source t (written t place).name
+
+-- with `-f` it isn't asked whether its file fits a file patch, but of one that is needed
+abbrev pub is_forced : PlainTurn → ℕ → Bool
+is_forced t place = t.options.force && not (is_needed t place)
+
+abbrev pub on_unfit : PlainTurn → Standing → ℕ → Option (List ℕ) → Side → Start
+on_unfit t stands place bytes side = if is_forced t place then on_taking t place bytes false side else on_misfit t stands place bytes side
+
+abbrev pub on_fitting : PlainTurn → ℕ → Option (List ℕ) → Side → Option Standing → Start
+on_fitting t place bytes side None = on_taking t place bytes false side
+on_fitting t place bytes side (Some stands) = on_unfit t stands place bytes side
+
+abbrev pub on_file : PlainTurn → Files → ℕ → Side → Start
+on_file t files place side = on_fitting t place (bytes_of t files place) side (unfit t files place side)
 
 -- the name that a file had, which messages show behind the one that it gets
 abbrev pub origin_from : Action → List ℕ → PlainOrigin
@@ -153,7 +163,7 @@ abbrev pub patching_said : PlainTurn → ℕ → List ℕ
 patching_said t place = silenced t.options (patching_line t.options.dry_run t.options.output (shown (named t place)) (origin_of t place))
 
 abbrev pub on_target : PlainTurn → Files → ℕ → Start
-on_target t files place = said_first (patching_said t place) (on_creation t files place (side_of t.options.reverse))
+on_target t files place = said_first (patching_said t place) (on_file t files place (side_of t.options.reverse))
 
 abbrev pub on_choice : PlainTurn → Files → Choice → Start
 on_choice t files (Existing k) = on_target t files k
@@ -161,7 +171,7 @@ on_choice t files (Create k) = on_target t files k
 on_choice t files Nothing = skips (no_file_lines t.item.patch.header.opening) (record { side = side_of t.options.reverse; target = None; wrote = false }) None
 
 abbrev pub choice_of : PlainTurn → Files → Choice
-choice_of t files = choice t.item.patch.header.action (may_make (side_of t.options.reverse) t.item.patch) (names_of t.item.targets) (is_some t.options.file) t.options.reverse (is_posix t.options) files
+choice_of t files = choice t.item.patch.header.action (names_new t.item.patch) (names_of t.item.targets) (is_some t.options.file) t.options.reverse (is_posix t.options) files
 
 -- the first of a run
 abbrev pub is_first : List Mark → Bool

@@ -1,12 +1,12 @@
 //! The choices of a run that need no device.
 
-ghost use Rattle.std.specs.Prelude.{◌≡◌};
+ghost use Rattle.std.specs.Prelude.{◌≡◌, ◌<◌, length};
 ghost use Rattle.patch_options.specs.PlainJob.{plain_options};
-ghost use Rattle.patch_start.specs.Start.{turns, turns_round};
-ghost use Rattle.patch_task.specs.TaskView.{plain_task};
+ghost use Rattle.patch_start.specs.Start.{turns, turns_round, is_needed, is_forced};
+ghost use Rattle.patch_task.specs.TaskView.{plain_task, IsTask};
 
 use patch_options::Options;
-use patch_task::Task;
+use patch_task::{Task, is_source, written};
 
 /// Whether this file patch is turned round where it doesn't suit its file; a rename or a copy never is.
 pub fn turns_round(task: &Task<'_>) -> bool
@@ -21,4 +21,23 @@ fn turns(options: &Options) -> bool
     ensures { result ≡ turns (plain_options options.now) }
 {
     options.batch && !options.forward
+}
+
+/// Whether it isn't asked if its file fits a file patch. Of a file that is needed it always is.
+pub fn is_forced(task: &Task<'_>, place: u32) -> bool
+    requires task { IsTask task.now }
+    requires within { place < length task.now.patch.now.targets.items }
+    ensures { result ≡ is_forced (plain_task task.now) place }
+{
+    task.options.force && !is_needed(task, place)
+}
+
+/// Whether a file would be renamed or copied onto one that a file patch of the text renames or
+/// copies.
+fn is_needed(task: &Task<'_>, place: u32) -> bool
+    requires task { IsTask task.now }
+    requires within { place < length task.now.patch.now.targets.items }
+    ensures { result ≡ is_needed (plain_task task.now) place }
+{
+    task.patch.is_moved() && is_source(task, &written(task, place).name)
 }

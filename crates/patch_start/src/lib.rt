@@ -5,6 +5,7 @@
 mod choices;
 mod discard;
 mod fill;
+mod fitting;
 mod naming;
 mod starting;
 mod weighing;

@@ -10,11 +10,12 @@ ghost use Rattle.name_choice.specs.Choice.{IsWithin as IsAmong, side_of};
 ghost use Rattle.say_text.specs.Messages.{no_file_lines, skipping_lines};
 ghost use Rattle.patch_task.specs.declared.fault.RunFault.TheVariants.{Write};
 ghost use Rattle.patch_task.specs.Turns.{Mark, bytes_of};
-ghost use Rattle.patch_start.specs.Start.{has_bytes, is_in_the_way, start, own_start, is_first, choice_of, on_target, on_creation, on_existing, on_taking};
+ghost use Rattle.patch_start.specs.Start.{start, own_start, is_first, choice_of, on_target, on_file, on_unfit, on_misfit, on_taking};
 ghost use Rattle.patch_start.specs.Starting.{Starts, Takes, IsPresent, IsWithin};
 ghost use Rattle.patch_task.specs.TaskView.{plain_task, with_past, IsTask};
 
-use crate::choices::turns_round;
+use crate::choices::{is_forced, turns_round};
+use crate::fitting::unfit;
 use crate::naming::{named, origin};
 use crate::weighing::weigh;
 use hunk_core::Side;
@@ -23,7 +24,7 @@ use name_choice::{Choice, choose};
 use outside::{Failed, Name, Sink, Tree};
 use patch_set::{Row, is_posix};
 use patch_task::{RunFault, Task, chosen, shown, written};
-use say_text::{say_exists, say_no_file, say_patching, say_skipped};
+use say_text::{Standing, say_no_file, say_patching, say_skipped, say_unfit};
 
 /// What becomes of a file patch.
 #[derive(Clone, Copy)]
@@ -156,44 +157,11 @@ fn on_target<P: Plan, T: Tree, O: Sink>(
         origin(task, place),
         out,
     )?;
-    on_creation(task, place, there, own_side(task), plan, tree, out)
+    on_file(task, place, there, own_side(task), plan, tree, out)
 }
 
-/// Whether a file that is there and has bytes stands where one is made.
-fn is_in_the_way<T: Tree>(
-    task: &Task<'_>,
-    place: u32,
-    side: Side,
-    tree: &mut T,
-) -> Result<bool, Failed>
-    requires task { IsTask task.now }
-    requires within { place < length task.now.patch.now.targets.items }
-    ensures untouched { IsUntouched (T.view tree.old) (T.view tree.new) }
-    ensures cause { OnErr result (Rises (T.view tree.old) (T.view tree.new)) }
-    ensures way { IfOk result (λ yes. (f : Files) → (T.view tree.old).told ≡ Some f → yes ≡ is_in_the_way (plain_task task.now) f place side) }
-{
-    if task.patch.is_moved() {
-        return has_bytes(&written(task, place).name, tree);
-    }
-    if !task.patch.creates(side) {
-        return Ok(false);
-    }
-    has_bytes(&chosen(task, place).name, tree)
-}
-
-/// Whether a file is there and has bytes.
-fn has_bytes<T: Tree>(name: &Name, tree: &mut T) -> Result<bool, Failed>
-    ensures untouched { IsUntouched (T.view tree.old) (T.view tree.new) }
-    ensures cause { OnErr result (Rises (T.view tree.old) (T.view tree.new)) }
-    ensures bytes { IfOk result (λ yes. (f : Files) → (T.view tree.old).told ≡ Some f → yes ≡ has_bytes (get f name.now)) }
-{
-    match tree.size(name)? {
-        Some(size) => Ok(size > 0),
-        None => Ok(false),
-    }
-}
-
-fn on_creation<P: Plan, T: Tree, O: Sink>(
+/// Whether its file fits it decides first.
+fn on_file<P: Plan, T: Tree, O: Sink>(
     task: &Task<'_>,
     place: u32,
     there: bool,
@@ -206,24 +174,21 @@ fn on_creation<P: Plan, T: Tree, O: Sink>(
     requires size { (P.seen plan.old).size ≡ task.now.options.now.buffer }
     requires within { place < length task.now.patch.now.targets.items }
     requires there { (f : Files) → (T.view tree.old).told ≡ Some f → there ≡ is_some (bytes_of (plain_task task.now) f place) }
-    ensures starts { Starts (T.view tree.old) (T.view tree.new) (P.seen plan.old) (P.seen plan.new) (O.view out.old) (O.view out.new) P.scratch_after result (bytes_of (plain_task task.now)) (λ f. on_creation (plain_task task.now) f place side) }
+    ensures starts { Starts (T.view tree.old) (T.view tree.new) (P.seen plan.old) (P.seen plan.new) (O.view out.old) (O.view out.new) P.scratch_after result (bytes_of (plain_task task.now)) (λ f. on_file (plain_task task.now) f place side) }
     ensures rest { O.same_rest out.old out.new }
     ensures within { IfOk result (IsWithin (length task.now.patch.now.targets.items)) }
 {
-    let is_in_the_way = match is_in_the_way(task, place, side, tree) {
-        Ok(yes) => yes,
-        Err(_) => return Err(RunFault::Tree),
-    };
-    if !is_in_the_way || task.options.force {
-        on_taking(task, place, there, false, side, plan, tree, out)
-    } else {
-        on_existing(task, place, there, side, plan, tree, out)
+    match unfit(task, place, side, tree) {
+        Ok(None) => on_taking(task, place, there, false, side, plan, tree, out),
+        Ok(Some(standing)) => on_unfit(task, standing, place, there, side, plan, tree, out),
+        Err(_) => Err(RunFault::Tree),
     }
 }
 
-/// The file is in the way: the file patch is turned round, or skipped.
-fn on_existing<P: Plan, T: Tree, O: Sink>(
+/// The file patch misfits its file, which with `-f` isn't asked but of a file that is needed.
+fn on_unfit<P: Plan, T: Tree, O: Sink>(
     task: &Task<'_>,
+    standing: Standing,
     place: u32,
     there: bool,
     side: Side,
@@ -235,12 +200,44 @@ fn on_existing<P: Plan, T: Tree, O: Sink>(
     requires size { (P.seen plan.old).size ≡ task.now.options.now.buffer }
     requires within { place < length task.now.patch.now.targets.items }
     requires there { (f : Files) → (T.view tree.old).told ≡ Some f → there ≡ is_some (bytes_of (plain_task task.now) f place) }
-    ensures starts { Starts (T.view tree.old) (T.view tree.new) (P.seen plan.old) (P.seen plan.new) (O.view out.old) (O.view out.new) P.scratch_after result (bytes_of (plain_task task.now)) (λ f. on_existing (plain_task task.now) place (bytes_of (plain_task task.now) f place) side) }
+    ensures starts { Starts (T.view tree.old) (T.view tree.new) (P.seen plan.old) (P.seen plan.new) (O.view out.old) (O.view out.new) P.scratch_after result (bytes_of (plain_task task.now)) (λ f. on_unfit (plain_task task.now) standing place (bytes_of (plain_task task.now) f place) side) }
+    ensures rest { O.same_rest out.old out.new }
+    ensures within { IfOk result (IsWithin (length task.now.patch.now.targets.items)) }
+{
+    if is_forced(task, place) {
+        on_taking(task, place, there, false, side, plan, tree, out)
+    } else {
+        on_misfit(task, standing, place, there, side, plan, tree, out)
+    }
+}
+
+/// It is turned round, or skipped.
+fn on_misfit<P: Plan, T: Tree, O: Sink>(
+    task: &Task<'_>,
+    standing: Standing,
+    place: u32,
+    there: bool,
+    side: Side,
+    plan: &mut P,
+    tree: &mut T,
+    out: &mut O,
+) -> Result<Decision, RunFault>
+    requires task { IsTask task.now }
+    requires size { (P.seen plan.old).size ≡ task.now.options.now.buffer }
+    requires within { place < length task.now.patch.now.targets.items }
+    requires there { (f : Files) → (T.view tree.old).told ≡ Some f → there ≡ is_some (bytes_of (plain_task task.now) f place) }
+    ensures starts { Starts (T.view tree.old) (T.view tree.new) (P.seen plan.old) (P.seen plan.new) (O.view out.old) (O.view out.new) P.scratch_after result (bytes_of (plain_task task.now)) (λ f. on_misfit (plain_task task.now) standing place (bytes_of (plain_task task.now) f place) side) }
     ensures rest { O.same_rest out.old out.new }
     ensures within { IfOk result (IsWithin (length task.now.patch.now.targets.items)) }
 {
     let is_turned = turns_round(task);
-    say_exists(task.options, shown(written(task, place)), is_turned, out)?;
+    say_unfit(
+        task.options,
+        standing,
+        shown(written(task, place)),
+        is_turned,
+        out,
+    )?;
     if is_turned {
         on_taking(task, place, there, true, side.other(), plan, tree, out)
     } else {

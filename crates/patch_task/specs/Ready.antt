@@ -1,17 +1,26 @@
 -- What a file patch needs before it is taken.
-use Rattle.std.specs.Prelude.{◌≡◌, ℕ, ◌<◌, ◌^◌, List, [], length, All}
+use Rattle.std.specs.Prelude.{◌≡◌, ℕ, ◌<◌, ◌^◌, List, [], length, map, All, if◌then◌else◌}
 use Rattle.std.specs.Option.{ForSome}
 use Rattle.patch_options.specs.PlainJob.{PlainOptions, HasContext, IsMacroName}
 use Rattle.file_patch.specs.declared.FilePatch.{FilePatch}
+use Rattle.file_patch.specs.declared.derived.Target.{Target}
+use Rattle.file_patch.specs.Actions.{is_moved}
 use Rattle.file_patch.specs.PlainPatch.{patch_of, row_count}
 use Rattle.file_patch.specs.Absent.{IsLawfulPatch}
 use Rattle.patch_set.specs.SetView.{SetView}
 use Rattle.patch_task.specs.Named.{IsNamed}
 use Rattle.patch_task.specs.Turns.{Item, PlainTurn}
 
--- a file patch of a set, of whose text these lines are passed over
-abbrev pub item_of : List ℕ → List ℕ → FilePatch → Item
-item_of text skipped p = record { patch = patch_of text p; targets = p.targets.items; skipped = skipped }
+-- the two names of a file patch that renames or copies a file
+abbrev pub moved_of : FilePatch → List Target
+moved_of p = if is_moved p.header.action then p.targets.items else []
+
+abbrev pub moved_in : List FilePatch → List (List Target)
+moved_in ps = map moved_of ps
+
+-- a file patch of a set, of whose text these lines are passed over and these files renamed or copied
+abbrev pub item_of : List ℕ → List ℕ → List (List Target) → FilePatch → Item
+item_of text skipped moved p = record { patch = patch_of text p; targets = p.targets.items; skipped = skipped; moved = moved }
 
 -- a file patch of a set, with its targets
 pub record IsFit (text : List ℕ) (p : FilePatch) : Type 0 where
@@ -31,4 +40,4 @@ pub record IsReady (o : PlainOptions) (v : SetView) : Type 0 where
 
 -- the turn of a file patch without what was before it
 abbrev pub alone : PlainOptions → SetView → FilePatch → PlainTurn
-alone o v p = record { options = o; output = v.output; item = item_of v.text v.skipped p; past = [] }
+alone o v p = record { options = o; output = v.output; item = item_of v.text v.skipped (moved_in v.patches) p; past = [] }

@@ -1,6 +1,7 @@
 -- A file patch whose turn it is, and the names of its files.
-use Rattle.std.specs.Prelude.{ℕ, List, [], drop, slice_index_or, slice_get, if◌then◌else◌, Option, None, unwrap_or}
-use Rattle.std.specs.Option.{option_or, option_and_then}
+use Rattle.std.specs.Prelude.{ℕ, List, [], drop, slice_index_or, slice_get, Bool, false, if◌then◌else◌, bytes_eq, Option, None, unwrap_or}
+use Rattle.std.specs.List.{list_any}
+use Rattle.std.specs.Option.{option_or, option_and_then, option_map_or}
 use Rattle.std.specs.FinMap.{get}
 use Rattle.outside.specs.Files.{Files}
 use Rattle.patch_options.specs.PlainJob.{PlainOptions}
@@ -9,11 +10,12 @@ use Rattle.file_patch.specs.PlainPatch.{PlainPatch, hunk_count}
 use Rattle.patch_set.specs.declared.set.Row.{Row}
 use Rattle.patch_task.specs.Asking.{renames, written_place}
 
--- a file patch, the files that it can be meant for, and the lines of the binary changes of its text that are passed over
+-- a file patch, the files that it can be meant for, the lines of the binary changes of its text that are passed over, and of each file patch of its text that renames or copies a file the two names
 pub record Item : Type 0 where
   pub patch : PlainPatch
   pub targets : List Target
   pub skipped : List ℕ
+  pub moved : List (List Target)
 
 -- what later file patches ask of one: the name that it made or took away as its target, the one that it took away from a file that it renamed, and its reject text with the name of that file
 pub record Mark : Type 0 where
@@ -63,3 +65,14 @@ shown_reject t = drop t.reject_shown_from t.reject
 
 abbrev pub total : PlainTurn → ℕ
 total t = hunk_count t.item.patch.change
+
+-- of the two names of a file that is renamed or copied the place of the one that it has before, as the file patches are taken
+abbrev pub source_at : Bool → ℕ
+source_at reverse = if reverse then 1 else 0
+
+abbrev pub has_at : ℕ → List ℕ → List Target → Bool
+has_at place name targets = option_map_or (λ w. bytes_eq name w.name) (slice_get targets place) false
+
+-- a file patch of the text renames or copies the file of this name
+abbrev pub is_source : PlainTurn → List ℕ → Bool
+is_source t name = list_any (has_at (source_at t.options.reverse) name) t.item.moved

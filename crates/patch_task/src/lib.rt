@@ -7,6 +7,7 @@ mod fault;
 mod moved;
 mod names;
 mod placed;
+mod sources;
 mod task;
 
 pub use asking::{acts_deleted, acts_new, is_bare, renames, takes_files};
@@ -14,4 +15,5 @@ pub use fault::RunFault;
 pub use moved::write_moved;
 pub use names::{chosen, shown, shown_reject, target_in, written, written_at};
 pub use placed::{Made, keep_old, write_placed};
+pub use sources::{is_same, is_source};
 pub use task::Task;

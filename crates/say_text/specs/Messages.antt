@@ -6,6 +6,8 @@ use Rattle.num_text.specs.Numbers.{decimal}
 use Rattle.patch_options.specs.PlainJob.{PlainOptions}
 use Rattle.say_text.specs.Origins.{PlainOrigin}
 use Rattle.say_text.specs.Origins.PlainOrigin.{Itself, RenamedFrom, CopiedFrom}
+use Rattle.say_text.specs.declared.standing.Standing.{Standing}
+use Rattle.say_text.specs.declared.standing.Standing.TheVariants.{Missing, Empty, Filled}
 
 -- with `-s` nothing is said (GNU diffutils manual, "Messages and Questions from patch")
 abbrev pub silenced : PlainOptions → List ℕ → List ℕ
@@ -65,9 +67,19 @@ reaction is_turned = if is_turned then codes "  Assuming -R.\n" else codes "  Sk
 abbrev pub reversed_line : Bool → List ℕ
 reversed_line is_turned = codes "Reversed (or previously applied) patch detected!" ++ reaction is_turned
 
--- the patch creates a file that is there
-abbrev pub exists_line : List ℕ → Bool → List ℕ
-exists_line name is_turned = codes "The next patch would create the file " ++ (name ++ (codes ", which already exists!" ++ reaction is_turned))
+-- what the patch would do, where its file is as it is to be already (GNU patch manual, "Creating and Removing Files")
+abbrev pub would_do : Standing → List ℕ
+would_do Missing = codes "The next patch would delete the file "
+would_do Empty = codes "The next patch would empty out the file "
+would_do Filled = codes "The next patch would create the file "
+
+abbrev pub stands_so : Standing → List ℕ
+stands_so Missing = codes ", which does not exist!"
+stands_so Empty = codes ", which is already empty!"
+stands_so Filled = codes ", which already exists!"
+
+abbrev pub unfit_line : Standing → List ℕ → Bool → List ℕ
+unfit_line standing name is_turned = would_do standing ++ (name ++ (stands_so standing ++ reaction is_turned))
 
 -- fuzz is told where it isn't 0
 abbrev pub fuzz_part : ℕ → List ℕ

@@ -1,14 +1,15 @@
 //! What is said of a file patch as a whole.
 
-ghost use Rattle.std.specs.Prelude.{◌≡◌, ◌++◌, codes};
+ghost use Rattle.std.specs.Prelude.{◌≡◌, ◌++◌, codes, true, false};
 ghost use Rattle.outside.specs.SinkView.{Writes};
 ghost use Rattle.patch_options.specs.PlainJob.{plain_options};
 ghost use Rattle.say_text.specs.Origins.{plain_origin};
-ghost use Rattle.say_text.specs.Messages.{silenced, doing, behind_name, patching_line, no_file_lines, prereq_line, reaction, reversed_line, exists_line, not_deleting_line};
+ghost use Rattle.say_text.specs.Messages.{silenced, doing, behind_name, patching_line, no_file_lines, prereq_line, reaction, reversed_line, would_do, stands_so, unfit_line, not_deleting_line};
 
 use crate::lines::no_file_lines;
 use crate::origin::Origin;
 use crate::pieces::{put_around, put_both};
+use crate::standing::Standing;
 use outside::{Failed, Sink, put_all};
 use patch_options::Options;
 
@@ -154,25 +155,56 @@ pub fn say_reversed<O: Sink>(options: &Options, turned: bool, out: &mut O) -> Re
     put_all(out, reversed_line(turned))
 }
 
-fn behind_existing(is_turned: bool) -> &'static [u8]
-    ensures { result.now ≡ codes ", which already exists!" ++ reaction is_turned }
+fn would_do(standing: Standing) -> &'static [u8]
+    ensures { result.now ≡ would_do standing }
 {
-    if is_turned {
-        b", which already exists!  Assuming -R.\n"
-    } else {
-        b", which already exists!  Skipping patch.\n"
+    match standing {
+        Standing::Missing => b"The next patch would delete the file ",
+        Standing::Empty => b"The next patch would empty out the file ",
+        Standing::Filled => b"The next patch would create the file ",
     }
 }
 
-/// Says that a patch creates a file that is there, and whether it is turned round or skipped. Nothing is written with
-/// `-s`.
-pub fn say_exists<O: Sink>(
+fn skipped_as(standing: Standing) -> &'static [u8]
+    ensures { result.now ≡ stands_so standing ++ reaction false }
+{
+    match standing {
+        Standing::Missing => b", which does not exist!  Skipping patch.\n",
+        Standing::Empty => b", which is already empty!  Skipping patch.\n",
+        Standing::Filled => b", which already exists!  Skipping patch.\n",
+    }
+}
+
+fn turned_as(standing: Standing) -> &'static [u8]
+    ensures { result.now ≡ stands_so standing ++ reaction true }
+{
+    match standing {
+        Standing::Missing => b", which does not exist!  Assuming -R.\n",
+        Standing::Empty => b", which is already empty!  Assuming -R.\n",
+        Standing::Filled => b", which already exists!  Assuming -R.\n",
+    }
+}
+
+fn what_follows(standing: Standing, is_turned: bool) -> &'static [u8]
+    ensures { result.now ≡ stands_so standing ++ reaction is_turned }
+{
+    if is_turned {
+        turned_as(standing)
+    } else {
+        skipped_as(standing)
+    }
+}
+
+/// Says that a patch creates, empties or deletes a file that is so already, and whether it is turned round or skipped. Nothing is
+/// written with `-s`.
+pub fn say_unfit<O: Sink>(
     options: &Options,
+    standing: Standing,
     name: &str,
     turned: bool,
     out: &mut O,
 ) -> Result<(), Failed>
-    ensures writes { Writes (O.view out.old) (O.view out.new) result (silenced (plain_options options.now) (exists_line name.now turned)) }
+    ensures writes { Writes (O.view out.old) (O.view out.new) result (silenced (plain_options options.now) (unfit_line standing name.now turned)) }
     ensures rest { O.same_rest out.old out.new }
 {
     if options.silent {
@@ -180,9 +212,9 @@ pub fn say_exists<O: Sink>(
     }
     put_around(
         out,
-        b"The next patch would create the file ",
+        would_do(standing),
         name.as_bytes(),
-        behind_existing(turned),
+        what_follows(standing, turned),
     )
 }
 

@@ -1,7 +1,7 @@
 use Rattle.std.proofs.Common.{◌≡◌, ◌∙◌, Some, IfOk, length, sym, subst}
 use Rattle.std.proofs.lemmas.Result.{IfOk-weaker}
 use Rattle.outside.specs.Files.{Files}
-use Rattle.name_choice.specs.Making.{told_making}
+use Rattle.name_choice.specs.Making.{told_new}
 use Rattle.name_choice.specs.Choice.{names_of, side_of, IsFound, IsWithin}
 use Rattle.name_choice.proofs.Chosen.{among_choice, moved_choice}
 use Rattle.name_choice.proofs.choose.Goals as goal
@@ -25,7 +25,7 @@ returns-then-is_moved-clause-untouched g c = c.choose_moved.ensures.untouched
 
 pub returns-else-is_moved-clause-chosen : goal.returns-else-is_moved-clause-chosen
 returns-else-is_moved-clause-chosen g c =
-    IfOk-weaker c.choose_among.result _ _ (λ chosen is files told. is files told ∙ rw c.side_of-side.ensures (among_choice c.args.patch.now.header.action (names_of c.args.patch.now.targets.items) (told_making (side_of c.args.reverse) c.args.patch.now) c.args.operand c.args.reverse c.args.posix files (sym c.is_moved.ensures ∙ c.if-is_moved.false))) c.choose_among.ensures.chosen
+    IfOk-weaker c.choose_among.result _ _ (λ chosen is files told. is files told ∙ among_choice c.args.patch.now.header.action (names_of c.args.patch.now.targets.items) (told_new c.args.patch.now) c.args.operand c.args.reverse c.args.posix files (sym c.is_moved.ensures ∙ c.if-is_moved.false)) c.choose_among.ensures.chosen
 
 pub returns-else-is_moved-clause-within : goal.returns-else-is_moved-clause-within
 returns-else-is_moved-clause-within g c = c.choose_among.ensures.within

@@ -1,6 +1,6 @@
 use Rattle.std.proofs.Common.{◌∙◌, List, ap, length, subst}
 use Rattle.outside.proofs.Exits.{if_ok_none}
-use Rattle.name_choice.specs.Making.{told_making}
+use Rattle.name_choice.specs.Making.{told_new}
 use Rattle.file_patch.specs.declared.derived.Target.{Target}
 use Rattle.name_choice.specs.Choice.{created, first_place, names_of, IsWithin}
 use Rattle.name_choice.proofs.Chosen.{chosen_operand, chosen_there, created_within, late_cause, some_within}
@@ -30,11 +30,11 @@ returns-in_err-best_new-clause-cause g c =
     late_cause (g.T.Tree.view c.args.tree.now) (g.T.Tree.view c.existing.new.tree) (g.T.Tree.view c.best_new.new.tree) c.from_residual-in_err-best_new.result c.in_ok-place.ensures.untouched c.in_err-best_new.ensures.cause
 
 pub returns-in-Some-clause-chosen : goal.returns-in-Some-clause-chosen
-returns-in-Some-clause-chosen g c = λ files told. chosen_there c.deref.ensures.value c.args.operand (told_making c.args.side c.args.patch.now) c.args.posix files c.in_ok-place.field-0 (c.in_ok-place.ensures.place files told) c.in-Some.place c.in-Some.is
+returns-in-Some-clause-chosen g c = λ files told. chosen_there c.deref.ensures.value c.args.operand (told_new c.args.patch.now) c.args.posix files c.in_ok-place.field-0 (c.in_ok-place.ensures.place files told) c.in-Some.place c.in-Some.is
 
 pub returns-then-operand-clause-chosen : goal.returns-then-operand-clause-chosen
 returns-then-operand-clause-chosen g c = λ files told.
-    chosen_operand c.deref.ensures.value c.args.operand (told_making c.args.side c.args.patch.now) c.args.posix files c.in_ok-place.field-0 (c.in_ok-place.ensures.place files told) c.first_created.result c.in_default.is c.if-operand.true
+    chosen_operand c.deref.ensures.value c.args.operand (told_new c.args.patch.now) c.args.posix files c.in_ok-place.field-0 (c.in_ok-place.ensures.place files told) c.first_created.result c.in_default.is c.if-operand.true
     (c.first_created.ensures.chosen ∙ ap (λ (t : List Target). created (first_place (names_of t))) c.deref-then-operand.ensures.value)
 
 pub returns-in_err-best_new-clause-chosen : goal.returns-in_err-best_new-clause-chosen

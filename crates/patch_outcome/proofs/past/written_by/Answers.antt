@@ -2,7 +2,7 @@ use Rattle.std.proofs.Common.{◌≡◌, Option, None, sym, ◌∙◌, ap}
 use Rattle.std.specs.Option.{option_or, option_and_then, option_copied}
 use Rattle.file_patch.specs.declared.derived.Target.{Target}
 use Rattle.patch_task.specs.Turns.{written_at}
-use Rattle.patch_task.specs.Ready.{item_of}
+use Rattle.patch_task.specs.Ready.{item_of, moved_in}
 use Rattle.patch_outcome.proofs.past.written_by.Goals as goal
 
 pub returns-in-Some-clause-named : goal.returns-in-Some-clause-named
@@ -10,9 +10,9 @@ returns-in-Some-clause-named c output fit x is = output x (sym c.output.ensures 
 
 pub returns-clause-target : goal.returns-clause-target
 returns-clause-target c o =
-    let item = item_of c.args.set.now.text c.args.set.now.skipped c.args.patch.now in
+    let item = item_of c.args.set.now.text c.args.set.now.skipped (moved_in c.args.set.now.patches) c.args.patch.now in
     let none : c.args.set.now.output ≡ None = sym c.output.ensures ∙ ap option_copied c.in_default.is in
-    c.written_at.ensures.target c.args.set.now.text c.args.set.now.skipped
+    c.written_at.ensures.target c.args.set.now.text c.args.set.now.skipped (moved_in c.args.set.now.patches)
     ∙ sym (ap (λ (x : Option Target). option_or x (option_and_then (written_at item) c.args.row.target)) none ∙ ap (option_and_then (written_at item)) c.in_ok-place.was)
 
 pub returns-clause-named : goal.returns-clause-named

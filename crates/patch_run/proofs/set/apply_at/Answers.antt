@@ -10,7 +10,7 @@ use Rattle.file_patch.specs.PlainPatch.{patch_of, row_count}
 use Rattle.patch_options.specs.PlainJob.{plain_options}
 use Rattle.patch_run.specs.Doing.{Does, IsPlacedOn}
 use Rattle.patch_run.specs.OnePatch.{Mark, PlainTurn, ending}
-use Rattle.patch_run.specs.Run.{item_of}
+use Rattle.patch_run.specs.Run.{item_of, moved_in}
 use Rattle.patch_outcome.specs.Ready.{IsFit, AreWritten, marks, rows_in, turn_at}
 use Rattle.patch_outcome.proofs.Marks.{place-at, same-patch, all-first, marks-before, rows-last}
 use Rattle.patch_run.proofs.RunEnds.{placed_rows}
@@ -57,7 +57,7 @@ returns g c = record {
       let s = c.split_at_mut-before.ensures in
       let front = c.split_at_mut-before.result.0.now in
       let at : q ≡ get_or v.patches k q = c.index-patches-k.is ∙ ap (λ (l : List FilePatch). get_or l k q) c.patches.ensures.patches in
-      let turn : List Mark → PlainTurn = λ past. record { options = o; output = v.output; item = item_of v.text v.skipped q; past = past } in
+      let turn : List Mark → PlainTurn = λ past. record { options = o; output = v.output; item = item_of v.text v.skipped (moved_in v.patches) q; past = past } in
       let past : marks o v k front ≡ marks o v k c.args.verdicts.now = marks-before o v k q c.args.verdicts.now front c.requires.numbered c.requires.within at s.front in
       let D = λ (rows : List Verdict) (t : PlainTurn). Does (g.T.Tree.view c.args.tree.now) (g.T.Tree.view c.apply_front.new.tree) (g.P.LineStore.seen c.args.plan.now) (g.P.LineStore.seen c.apply_front.new.plan) (g.O.Sink.view c.args.out.now) (g.O.Sink.view c.apply_front.new.out) g.P.Plan.scratch_after c.apply_front.result rows (ending t) in
       let does : D (take (row_count q.change) c.apply_front.new.verdicts) (turn (marks o v k front)) = c.apply_front.ensures.does in

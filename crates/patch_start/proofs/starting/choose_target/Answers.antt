@@ -3,11 +3,11 @@ use Rattle.std.proofs.lemmas.Result.{IfOk-weaker}
 use Rattle.std.specs.FinMap.{get}
 use Rattle.outside.specs.Files.{Files}
 use Rattle.file_patch.specs.declared.derived.Target.{Target}
-use Rattle.name_choice.specs.Choice.{IsFound, choice, names_of, side_of}
+use Rattle.name_choice.specs.Choice.{IsFound, choice, names_of}
 use Rattle.name_choice.specs.declared.Choice.{Choice}
 use Rattle.name_choice.specs.declared.Choice.TheVariants.{Existing, Create, Nothing}
-use Rattle.name_choice.specs.Making.{told_making}
-use Rattle.name_choice.proofs.FirstHunks.{making_told}
+use Rattle.name_choice.specs.Making.{told_new}
+use Rattle.name_choice.proofs.FirstHunks.{new_told}
 use Rattle.patch_options.specs.PlainJob.{plain_options}
 use Rattle.patch_set.specs.Asked.{is_posix}
 use Rattle.patch_task.specs.Turns.{target_at, no_target}
@@ -32,11 +32,11 @@ returns-clause-chosen g c =
     let task = c.args.task.now in
     let o = plain_options task.options.now in
     let made : Bool → Bool → Bool → Files → Choice = λ makes operand posix f. choice task.patch.now.header.action makes (names_of task.patch.now.targets.items) operand o.reverse posix f in
-    let told = told_making (side_of o.reverse) task.patch.now in
+    let told = told_new task.patch.now in
     IfOk-weaker c.choose.result _ _
     (λ x is f given.
     is f given
     ∙ ap (λ operand. made told operand c.is_posix.result f) c.is_some.ensures
     ∙ ap (λ posix. made told (is_some o.file) posix f) c.is_posix.ensures
-    ∙ ap (λ makes. made makes (is_some o.file) (is_posix o) f) (making_told task.set.now.text task.patch.now (side_of o.reverse) c.requires.task.fit.lawful))
+    ∙ ap (λ makes. made makes (is_some o.file) (is_posix o) f) (new_told task.set.now.text task.patch.now c.requires.task.fit.lawful))
     c.choose.ensures.chosen

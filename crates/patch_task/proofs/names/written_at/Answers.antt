@@ -10,14 +10,14 @@ either xs i j k x same is = ap (λ n. option_or (slice_get xs n) (slice_get xs k
 
 pub returns-in-Some : goal.returns-in-Some
 returns-in-Some c = record {
-  target = λ text skipped. (
+  target = λ text skipped moved. (
       let xs = c.args.patch.now.targets.items in
       sym (either xs c.written_place.result _ c.args.place (Some c.in-Some.target.now) (c.written_place.ensures text) (sym c.target_in.ensures.target ∙ ap option_copied c.in-Some.is)));
   named = λ all x is. c.target_in.ensures.named all x (ap option_copied c.in-Some.is ∙ is);
 }
 
 pub returns-in-None-clause-target : goal.returns-in-None-clause-target
-returns-in-None-clause-target c text skipped =
+returns-in-None-clause-target c text skipped moved =
     let xs = c.args.patch.now.targets.items in
     c.target_in-in-None.ensures.target
     ∙ sym (either xs c.written_place.result _ c.args.place None (c.written_place.ensures text) (sym c.target_in.ensures.target ∙ ap option_copied c.in-None.is))
