@@ -3,7 +3,6 @@
 use crate::helping::put_help;
 use crate::outputs::Outputs;
 use crate::runner::Runner;
-use crate::syncing::syncs_of;
 use outside::put_all;
 use program_words::{Lines, places_of};
 use real_devices::{Disk, Input, Pages};
@@ -41,13 +40,12 @@ pub fn run_over<X: Runner>(
 ) -> io::Result<Why> {
     let alloc = rt.alloc();
     let is_patch = matches!(tool, PATCH | RECOUNT);
-    let mut tree = Disk::new(
-        alloc,
-        rt,
-        places_of(alloc, tool, words),
-        syncs_of(alloc, words),
-    )?;
     let named = env::var(rt, "TMPDIR");
+    let places = places_of(alloc, tool, words);
+    if places.is_standard {
+        outputs.say_on_error(rt)?;
+    }
+    let mut tree = Disk::new(alloc, rt, places, directory_in(&named))?;
     let pages = Pages::new(alloc, rt, directory_in(&named))?;
     let mut input = Input::new(alloc, rt.stdin(), is_patch);
     let (why, pages) = runner.run(

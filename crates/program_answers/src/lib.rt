@@ -8,7 +8,6 @@ mod helping;
 mod outputs;
 mod refusing;
 mod runner;
-mod syncing;
 
 pub use asking::answer;
 pub use runner::Runner;

@@ -7,11 +7,33 @@ use real_devices::{Output, Trouble};
 use run_answers::Why;
 use std::alloc::Global;
 use std::io;
+use std::io::Write;
 use std::rt::{Stderr, Stdout};
+
+/// Where what a run says goes.
+#[derive(Drop)]
+pub enum Says {
+    Output(Stdout),
+    /// Standard output has the file that the run makes.
+    Error(Stderr),
+}
+
+impl Write for Says {
+    fn write(&mut self, piece: &[u8]) -> io::Result<usize> {
+        match self {
+            Says::Output(stream) => stream.write(piece),
+            Says::Error(stream) => stream.write(piece),
+        }
+    }
+
+    fn flush(&mut self) -> io::Result<()> {
+        Ok(())
+    }
+}
 
 #[derive(Drop)]
 pub struct Outputs {
-    pub out: Output<Stdout>,
+    pub out: Output<Says>,
     pub err: Output<Stderr>,
 }
 
@@ -19,13 +41,22 @@ impl Outputs {
     /// Nothing but memory can be missing.
     pub fn new(rt: &HostRuntime) -> io::Result<Outputs> {
         let alloc = rt.alloc();
-        match Output::new(alloc, rt.stdout()) {
+        match Output::new(alloc, Says::Output(rt.stdout())) {
             Ok(out) => match Output::new(alloc, rt.stderr()) {
                 Ok(err) => Ok(Outputs { out, err }),
                 Err(error) => Err(error),
             },
             Err(error) => Err(error),
         }
+    }
+
+    /// Has what a run says go to standard error. Nothing was said yet.
+    pub fn say_on_error(&mut self, rt: &HostRuntime) -> io::Result<()> {
+        self.out = match Output::new(rt.alloc(), Says::Error(rt.stderr())) {
+            Ok(out) => out,
+            Err(error) => return Err(error),
+        };
+        Ok(())
     }
 
     /// Writes out what both have gathered, and answers the exit status. What was said last may not reach its reader, whatever the

@@ -5,7 +5,6 @@ use crate::emptied::put_emptied;
 use crate::line_ends::put_line_ends;
 use crate::lines::Lines;
 use crate::modes::{Taking, put_modes};
-use crate::quotes::put_quotes;
 use crate::ranges::put_ranges;
 use crate::skipped::{put_skipped, put_stack_skipped};
 use patch_options::{Job, Options, read_words};
@@ -21,8 +20,8 @@ pub struct Ended<'a> {
     pub ends: &'a LineEnds,
 }
 
-/// That the text is cut in its last line, that a line of it opens no hunk though it looks so, that a name stands in quotes, and which
-/// modes aren't carried out; of what was left out, that lines end otherwise than those of the patch, why no file was found, and that a
+/// That the text is cut in its last line, that a line of it opens no hunk though it looks so, and which modes aren't carried
+/// out; of what was left out, that lines end otherwise than those of the patch, why no file was found, and that a
 /// stack keeps no reject files; of `recountdiff`, that an empty line ends a hunk. Where the run was refused, something is said only of a
 /// text without a file patch.
 pub fn put_texts<R: Files>(
@@ -77,7 +76,7 @@ fn put_of_patch<R: Files>(
         _ => {}
     }
     if let Why::Rejected = ended.why {
-        put_line_ends(lines, "patch", ended, passed.front());
+        put_line_ends(lines, "patch", ended, passed.front(), options.keep_returns);
         put_skipped(lines, rt, options, ended.heard, passed);
     }
 }
@@ -85,7 +84,6 @@ fn put_of_patch<R: Files>(
 /// What is said of the lines of a text.
 fn put_taken(lines: &mut Lines, tool: &str, taking: Taking, passed: &Passed) {
     put_ranges(lines, tool, passed.front());
-    put_quotes(lines, tool, passed.front());
     put_modes(lines, tool, taking, passed);
 }
 
@@ -94,7 +92,7 @@ fn put_of_stack(lines: &mut Lines, words: &[String], ended: Ended<'_>, passed: &
         Why::Done | Why::Garbage => put_pushed(lines, words, passed),
         Why::Rejected => {
             put_pushed(lines, words, passed);
-            put_line_ends(lines, "patchstack", ended, passed.front());
+            put_line_ends(lines, "patchstack", ended, passed.front(), false);
             put_stack_skipped(lines, ended.heard, passed);
         }
         _ => {}

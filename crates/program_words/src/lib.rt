@@ -17,7 +17,6 @@ mod modes;
 mod names;
 mod pattern;
 mod places;
-mod quotes;
 mod ranges;
 mod skipped;
 mod state;

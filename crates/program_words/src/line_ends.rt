@@ -1,7 +1,7 @@
 //! The line behind a run in which hunks failed, where the lines of the patch end otherwise than those of a file.
 
 use crate::ended::Ended;
-use crate::lines::{Lines, Part, is_feed};
+use crate::lines::{Lines, Part, bare, is_feed};
 use memchr::memrchr;
 
 const RETURNED: &str =
@@ -13,6 +13,10 @@ const PLAIN: &str = "the lines of the patch end in carriage return and line feed
 #[derive(Clone, Copy)]
 struct Shown {
     is_hunk: bool,
+    /// Whether the line before has a carriage return.
+    before: bool,
+    /// Whether the lines of the hunks are read without theirs, as the last line of their header has one.
+    are_stripped: bool,
     /// Whether the last of them has a carriage return. A backslash behind it says that it has no line feed.
     last: Option<bool>,
     has_returned: bool,
@@ -20,9 +24,16 @@ struct Shown {
 }
 
 /// The line, where a hunk failed, and all lines that the hunks show end in carriage return and line feed and the first line of a file
-/// doesn't, or none of them does and the first line of a file does.
-pub fn put_line_ends(lines: &mut Lines, tool: &str, ended: Ended<'_>, front: &[u8]) {
-    let (said, name) = match shown_in(front) {
+/// doesn't, or none of them does and the first line of a file does. Those that are read without their carriage returns, unless these are
+/// kept, have none.
+pub fn put_line_ends(
+    lines: &mut Lines,
+    tool: &str,
+    ended: Ended<'_>,
+    front: &[u8],
+    keeps_returns: bool,
+) {
+    let (said, name) = match shown_in(front, keeps_returns) {
         Some(false) => (RETURNED, ended.ends.returned()),
         Some(true) => (PLAIN, ended.ends.plain()),
         None => ("", ""),
@@ -34,9 +45,11 @@ pub fn put_line_ends(lines: &mut Lines, tool: &str, ended: Ended<'_>, front: &[u
 
 /// Whether the lines that the hunks in this front of the text show end in carriage return and line feed. There is no answer where
 /// some do and some don't.
-fn shown_in(front: &[u8]) -> Option<bool> {
+fn shown_in(front: &[u8], keeps_returns: bool) -> Option<bool> {
     let mut shown = Shown {
         is_hunk: false,
+        before: false,
+        are_stripped: false,
         last: None,
         has_returned: false,
         has_plain: false,
@@ -46,7 +59,7 @@ fn shown_in(front: &[u8]) -> Option<bool> {
         None => return None,
     };
     for line in front.get(..end).unwrap_or(front).split(is_feed) {
-        shown = with_line(shown, line);
+        shown = with_line(shown, line, keeps_returns);
     }
     let shown = with_last(shown);
     if shown.has_returned == shown.has_plain {
@@ -57,23 +70,33 @@ fn shown_in(front: &[u8]) -> Option<bool> {
 }
 
 /// What is shown up to this line.
-fn with_line(shown: Shown, line: &[u8]) -> Shown {
+fn with_line(shown: Shown, line: &[u8], keeps_returns: bool) -> Shown {
     let mut shown = shown;
     if line.starts_with(b"\\") {
         shown.last = None;
         return shown;
     }
     shown = with_last(shown);
-    let text = line.strip_suffix(b"\r").unwrap_or(line);
+    let text = bare(line);
+    let has_return = text.len() < line.len();
     if begins_hunk(text) {
+        if !shown.is_hunk {
+            let comes = if is_command(text) {
+                has_return
+            } else {
+                shown.before
+            };
+            shown.are_stripped = comes && !keeps_returns;
+        }
         shown.is_hunk = true;
     } else if is_of_hunk(text) {
         if shown.is_hunk {
-            shown.last = Some(text.len() < line.len());
+            shown.last = Some(has_return && !shown.are_stripped);
         }
     } else if !text.is_empty() {
         shown.is_hunk = false;
     }
+    shown.before = has_return;
     shown
 }
 

@@ -129,6 +129,11 @@ impl Lines {
     }
 }
 
+/// The line without the carriage return at its end, as a run reads the lines of headers.
+pub fn bare(line: &[u8]) -> &[u8] {
+    line.strip_suffix(b"\r").unwrap_or(line)
+}
+
 /// Whether a line ends with this byte.
 pub fn is_feed(byte: &u8) -> bool {
     *byte == b'\n'

@@ -1,6 +1,6 @@
 //! The lines behind a run over a patch text in which git gives files modes: none is carried out.
 
-use crate::lines::{Lines, Part, is_feed};
+use crate::lines::{Lines, Part, bare, is_feed};
 use crate::names::both_names;
 use file_patch::{last_component, shortened};
 use real_devices::Passed;
@@ -25,6 +25,7 @@ pub struct Taking {
 pub fn put_modes(lines: &mut Lines, tool: &str, taking: Taking, passed: &Passed) {
     let mut header = b"".as_slice();
     for line in passed.mode_lines().split(is_feed) {
+        let line = bare(line);
         match line.strip_prefix(b"diff --git ") {
             Some(names) => header = names,
             None => put_mode(lines, tool, taking, header, line),

@@ -1,8 +1,9 @@
 //! The names in the lines of a file patch for which no file was found.
 
 use crate::barred::{NOTHING, put_none};
-use crate::lines::{Lines, Part, is_feed};
+use crate::lines::{Lines, Part, bare, is_feed};
 use file_patch::{candidates, moved_names};
+use header_record::quoted_length;
 use memchr::{memchr, memmem, memrchr};
 use outside::Name;
 use std::alloc::{AllocError, Global};
@@ -107,6 +108,7 @@ pub fn given_in(front: &[u8], opening: u64) -> Given<'_> {
     };
     let mut number = 0u64;
     for line in front.split(is_feed) {
+        let line = bare(line);
         number = number.saturating_add(1);
         if number > opening && !is_of_header(line) {
             break;
@@ -170,11 +172,12 @@ pub fn both_names(names: &[u8]) -> (&[u8], &[u8]) {
     )
 }
 
-/// The name behind one of the marks at the line's front, or that of an index line: up to a tab, else up to a space.
+/// The name behind one of the marks at the line's front, or that of an index line: in quotes, or up to a tab, else up to a space.
 fn name_of<'a>(line: &'a [u8], mark: &[u8], other: &[u8]) -> Option<&'a [u8]> {
     match behind(line, mark, other).or(line.strip_prefix(b"Index: ")) {
         Some(rest) => {
-            let end = memchr(b'\t', rest)
+            let end = quoted_length(rest)
+                .or(memchr(b'\t', rest))
                 .or(memchr(b' ', rest))
                 .unwrap_or(rest.len());
             rest.get(..end)

@@ -1,9 +1,10 @@
 //! What the words say of the tree that a run works on.
 
 use outside::Name;
-use patch_options::{Input, Job, Options, read_words};
-use real_devices::Places;
+use patch_options::{Input, Job, Options, SyncKind, read_words};
+use real_devices::{Places, Syncs};
 use std::alloc::{AllocError, Global};
+use tool_words::{ToolJob, read_tool_words};
 
 /// The tool of which the tree keeps saves.
 const STACK: &str = "patchstack";
@@ -11,8 +12,14 @@ const STACK: &str = "patchstack";
 /// The tool that reads no file but its patch text, of which something is said behind its run.
 const RECOUNT: &str = "recountdiff";
 
-/// The tool that puts its parts beside its file, and so never reads standard input.
-const SPLIT: &str = "splitdiff";
+/// The filters that only write to standard output. `splitdiff` puts its parts beside its file.
+const FILTERS: [&str; 5] = [
+    "lsdiff",
+    "filterdiff",
+    "grepdiff",
+    "recountdiff",
+    "reversediff",
+];
 
 /// What the words say, where they are a command. Without memory they say nothing: the run will say so.
 pub fn places_of(alloc: Global, tool: &str, words: &[String]) -> Places {
@@ -31,7 +38,10 @@ pub fn places_of(alloc: Global, tool: &str, words: &[String]) -> Places {
             file: None,
             output: None,
             rejects: None,
-            has_input: !is_stack && !matches!(tool, SPLIT),
+            is_standard: false,
+            follows: false,
+            syncs: syncs_of_tool(alloc, words),
+            is_filter: FILTERS.contains(&tool),
         },
     }
 }
@@ -45,7 +55,35 @@ fn places_in(alloc: Global, options: &Options) -> Places {
         file: named(alloc, options, &options.file),
         output: named(alloc, options, &options.output),
         rejects: named(alloc, options, &options.reject),
-        has_input: true,
+        is_standard: matches!(&options.output, Some(output) if output.text() == "-"),
+        follows: options.follow_links,
+        syncs: syncs_of(options.sync),
+        is_filter: false,
+    }
+}
+
+/// Whether files and directories are synced.
+fn syncs_of(sync: SyncKind) -> Syncs {
+    match sync {
+        SyncKind::Each => Syncs::Each,
+        SyncKind::Never => Syncs::None,
+    }
+}
+
+/// The same by the words of a tool beside `patch`. The filters but `splitdiff` write no files.
+fn syncs_of_tool(alloc: Global, words: &[String]) -> Syncs {
+    match read_tool_words(alloc, words) {
+        Ok(job) => {
+            let sync = match &job {
+                ToolJob::Split(job) => job.sync,
+                ToolJob::Gen(job) => job.sync,
+                ToolJob::Stack(job) => job.sync,
+                _ => SyncKind::Each,
+            };
+            drop(job);
+            syncs_of(sync)
+        }
+        Err(_) => Syncs::Each,
     }
 }
 

@@ -29,8 +29,14 @@ pub struct Places {
     pub file: Option<Name>,
     pub output: Option<Name>,
     pub rejects: Option<Name>,
-    /// Whether a patch text may come from standard input.
-    pub has_input: bool,
+    /// Whether the output is standard output.
+    pub is_standard: bool,
+    /// Whether a file that is a link is the one behind it.
+    pub follows: bool,
+    /// Whether files and directories are synced.
+    pub syncs: Syncs,
+    /// Whether it is that of a filter, which reads all its files as texts.
+    pub is_filter: bool,
 }
 
 /// The files, and the count of their faults. It tells no content.
@@ -57,9 +63,10 @@ impl<'r, R: Files<File = File>> Disk<'r, R> {
         alloc: Global,
         rt: &'r R,
         places: Places,
-        syncs: Syncs,
+        temporary: &str,
     ) -> Result<Disk<'r, R>, AllocError> {
-        let files = match OpenFiles::new(alloc, rt, places.is_stack, syncs) {
+        let (is_stack, syncs, follows) = (places.is_stack, places.syncs, places.follows);
+        let files = match OpenFiles::new(alloc, rt, is_stack, syncs, follows, temporary) {
             Ok(files) => files,
             Err(error) => return Err(error),
         };
@@ -74,9 +81,11 @@ impl<'r, R: Files<File = File>> Disk<'r, R> {
         })
     }
 
-    /// Takes away the temporaries that a run left which a fault of another file broke off. Nothing is called behind it.
+    /// Takes away the temporaries that a run left which a fault of another file broke off, and the last directories that are empty.
+    /// Nothing is called behind it.
     pub fn end(&mut self) {
         self.files.give_up_all();
+        self.files.drop_emptied();
     }
 
     /// What failed last.
@@ -86,7 +95,7 @@ impl<'r, R: Files<File = File>> Disk<'r, R> {
 
     /// The name of the last file that was looked for and isn't there, and why, as `d/n: not found`.
     pub fn missing(&self, alloc: Global) -> Result<Option<String>, AllocError> {
-        self.files.missing(alloc, self.seen.places.has_input)
+        self.files.missing(alloc)
     }
 
     /// The first name that was taken already when a temporary was to be made, or nothing.
@@ -160,10 +169,31 @@ fn is_patch(places: &Places, name: &str) -> bool {
     }
 }
 
-/// Whether a run can begin, and the name that is meant: its directory is there, and no directory, pipe or device stands in place of
-/// a file that the words name. What stands in place of a reject file matters only once there are rejects, but for a directory.
+/// Whether the file has a text that may come from a pipe or a device. What a filter writes parts of is none, since they stand beside it.
+fn is_text(places: &Places, name: &str) -> bool {
+    match &places.patch {
+        Some(patch) => patch.text() == name,
+        None => places.is_filter,
+    }
+}
+
+/// The size of a file, or of a text that may come from a pipe or a device.
+fn size_at<R: Files<File = File>>(
+    files: &mut OpenFiles<'_, R>,
+    places: &Places,
+    path: Path<'_>,
+) -> io::Result<Option<u64>> {
+    if is_text(places, path.text) {
+        files.size_of_text(path)
+    } else {
+        files.size(path)
+    }
+}
+
+/// Whether a run can begin, and the name that is meant: its directory is there, and no directory stands in place of a file that the
+/// words name, nor a pipe or a device in place of the file to be patched.
 fn begun<'a, R: Files<File = File>>(
-    files: &OpenFiles<'_, R>,
+    files: &mut OpenFiles<'_, R>,
     places: &'a Places,
 ) -> (&'a str, io::Result<()>) {
     if let Some(root) = &places.root {
@@ -171,24 +201,25 @@ fn begun<'a, R: Files<File = File>>(
             return (root.as_str(), Err(error));
         }
     }
-    let file = found(files, &places.file, true);
-    if file.1.is_err() {
-        return file;
+    if let Some(file) = &places.file {
+        if let Err(error) = files.find_given(Path::of(file)) {
+            return (file.text(), Err(error));
+        }
     }
-    let output = found(files, &places.output, true);
+    let output = found_output(files, &places.output, places.is_standard);
     if output.1.is_err() {
         return output;
     }
-    found(files, &places.rejects, false)
+    found_output(files, &places.rejects, false)
 }
 
-fn found<'a, R: Files<File = File>>(
-    files: &OpenFiles<'_, R>,
+fn found_output<'a, R: Files<File = File>>(
+    files: &mut OpenFiles<'_, R>,
     name: &'a Option<Name>,
-    is_needed: bool,
+    is_standard: bool,
 ) -> (&'a str, io::Result<()>) {
     match name {
-        Some(name) => (name.text(), files.find_given(Path::of(name), is_needed)),
+        Some(name) => (name.text(), files.find_output(Path::of(name), is_standard)),
         None => (".", Ok(())),
     }
 }
@@ -203,13 +234,13 @@ impl<'r, R: Files<File = File>> Tree for Disk<'r, R> {
     /// That the tree is settled when a run begins is a premise over real files: all that is looked for is its directory, and what
     /// stands at the names that the words give.
     fn settle(&mut self) -> Result<(), Failed> {
-        let (name, done) = begun(&self.files, &self.seen.places);
+        let (name, done) = begun(&mut self.files, &self.seen.places);
         self.faults.answer(name, done)
     }
 
     fn size(&mut self, name: &Name) -> Result<Option<u64>, Failed> {
         let path = Path::of(name);
-        let done = self.files.size(path);
+        let done = size_at(&mut self.files, &self.seen.places, path);
         self.seen.note_file(path.text);
         self.faults.answer(path.text, done)
     }

@@ -19,6 +19,9 @@ impl<'r, R: Files<File = File>> OpenFiles<'r, R> {
         self.writing.flush(&mut self.temporaries)?;
         let number = self.temporaries.place()?;
         let target = target_of(temp);
+        if self.outlets.has(target.text) {
+            return self.start_outlet(temp, number);
+        }
         let place = match self.directories.open_way(self.rt, target, true) {
             Ok(place) => place,
             Err(error) => return Err(error),
@@ -45,6 +48,18 @@ impl<'r, R: Files<File = File>> OpenFiles<'r, R> {
         };
         self.saves.start(target.text);
         self.begin(temp, number, file, rights)
+    }
+
+    /// Makes the temporary of an output that is written through.
+    fn start_outlet(&mut self, temp: Path<'_>, number: usize) -> io::Result<()> {
+        let file = match self.outlets.make(self.rt, &mut self.directories.path) {
+            Ok(file) => file,
+            Err(error) => return Err(error),
+        };
+        if let Some(temporary) = self.temporaries.get_mut(number) {
+            temporary.real.clear();
+        }
+        self.begin(temp, number, file, Rights::NONE)
     }
 
     /// Keeps a temporary that was made.
@@ -92,9 +107,11 @@ impl<'r, R: Files<File = File>> OpenFiles<'r, R> {
         let Some(file) = &temporary.file else {
             return Err(no_file());
         };
-        give(file, temporary.due)?;
-        if self.syncs.are_made() {
-            file.sync_all()?;
+        if !temporary.is_nameless() {
+            give(file, temporary.due)?;
+            if self.syncs.are_made() {
+                file.sync_all()?;
+            }
         }
         temporary.close();
         Ok(())
@@ -109,6 +126,9 @@ impl<'r, R: Files<File = File>> OpenFiles<'r, R> {
             return Err(no_file());
         };
         self.check_filled()?;
+        if self.outlets.has(to.text) {
+            return self.write_through(number, to);
+        }
         let (to, from) = match self.directories.both_ways(self.rt, to, target_of(temp)) {
             Ok(both) => both,
             Err(error) => return Err(error),
@@ -126,11 +146,27 @@ impl<'r, R: Files<File = File>> OpenFiles<'r, R> {
         Ok(())
     }
 
+    /// Writes the temporary of an output through.
+    fn write_through(&mut self, number: usize, to: Path<'_>) -> io::Result<()> {
+        let Some(temporary) = self.temporaries.get(number) else {
+            return Err(no_file());
+        };
+        let Some(file) = &temporary.file else {
+            return Err(no_file());
+        };
+        self.outlets.write(self.rt, to.text, file)?;
+        self.temporaries.end(number);
+        Ok(())
+    }
+
     /// Whether the temporary that is being filled, if there is one, can take its name.
     fn check_filled(&mut self) -> io::Result<()> {
         let Some(target) = self.temporaries.last_target() else {
             return Ok(());
         };
+        if self.outlets.has(target.text) {
+            return Ok(());
+        }
         match self.directories.open_way(self.rt, target, false) {
             Ok(place) => replaceable(self.directories.look(self.rt, place)),
             Err(error) => Err(error),
@@ -163,6 +199,10 @@ impl<'r, R: Files<File = File>> OpenFiles<'r, R> {
         let Some(temporary) = self.temporaries.get(number) else {
             return Err(no_file());
         };
+        if temporary.is_nameless() {
+            self.temporaries.end(number);
+            return Ok(());
+        }
         let target = target_of(temporary.path());
         let place = match self.directories.open_way(self.rt, target, false) {
             Ok(place) => place,
@@ -188,7 +228,8 @@ impl<'r, R: Files<File = File>> OpenFiles<'r, R> {
         }
     }
 
-    /// Takes a name away. None that is for temporaries alone is taken from a file of the user's.
+    /// Takes a name away, and in time the directories that it leaves empty. None that is for temporaries alone is taken from a file
+    /// of the user's.
     pub fn remove(&mut self, name: Path<'_>) -> io::Result<()> {
         self.reading.close(name.text);
         if let Some(number) = self.temporaries.find(name.text) {
@@ -208,6 +249,8 @@ impl<'r, R: Files<File = File>> OpenFiles<'r, R> {
         };
         self.saves.take_away(name.text, found.rights)?;
         self.looks.forget();
-        self.directories.remove(self.rt, place)
+        self.directories.remove(self.rt, place)?;
+        self.note_emptied(name);
+        Ok(())
     }
 }

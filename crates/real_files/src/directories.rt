@@ -48,10 +48,12 @@ pub struct Directories {
     /// The first name that was taken already when a temporary was to be made.
     taken: Text,
     syncs: Syncs,
+    /// Whether a file that is a link is the one behind it.
+    pub(crate) follows: bool,
 }
 
 impl Directories {
-    pub fn new(alloc: Global, syncs: Syncs) -> Result<Directories, AllocError> {
+    pub fn new(alloc: Global, syncs: Syncs, follows: bool) -> Result<Directories, AllocError> {
         let held = AllHeld::new(alloc)?;
         let path = Text::new(alloc, LONGEST_PATH + ROOM_IN_FRONT)?;
         let second = Text::new(alloc, LONGEST_PATH + ROOM_IN_FRONT)?;
@@ -64,6 +66,7 @@ impl Directories {
             staying: None,
             taken,
             syncs,
+            follows,
         })
     }
 

@@ -5,15 +5,20 @@
 //!
 //! A temporary goes by its file's name with `.ptmp` behind it, and stands under another name that no file has. So a file of the
 //! user's that is so named is read as any other.
+//!
+//! A pipe or a device is no file either, but where the operator gave its name for a text: then it is read to its end.
 ghost use Rattle.std.specs.Prelude.{◌≤◌, length, IfOk};
 
 use crate::directories::{Directories, Syncs};
+use crate::emptied::Emptied;
 use crate::found::{Found, found_behind, found_itself, told};
 use crate::looks::Looks;
 use crate::missing::Missing;
+use crate::outlets::Outlets;
 use crate::paths::{
     Path, no_file, not_a_directory, not_a_file, or_out_of_reach, regular, target_of,
 };
+use crate::pipes::{Pipes, part_of};
 use crate::reading::{Reading, Seen};
 use crate::saves::Saves;
 use crate::spots::Place;
@@ -30,39 +35,51 @@ pub struct OpenFiles<'r, R: Files<File = File>> {
     pub(crate) is_stack: bool,
     pub(crate) syncs: Syncs,
     pub(crate) reading: Reading,
+    pub(crate) pipes: Pipes,
     pub(crate) writing: Writing,
     pub(crate) saves: Saves,
     pub(crate) temporaries: Temporaries,
     pub(crate) looks: Looks,
     pub(crate) missing: Missing,
+    pub(crate) outlets: Outlets,
     pub(crate) directories: Directories,
+    pub(crate) emptied: Emptied,
 }
 
 impl<'r, R: Files<File = File>> OpenFiles<'r, R> {
-    /// Takes all the memory that calls on files want, but for many temporaries at once and for the saves of a stack.
+    /// Takes all the memory that calls on files want, but for many temporaries at once and for the saves of a stack. `follows` says
+    /// that a file that is a link is the one behind it, and that what is written replaces the link. `temporary` is the directory for
+    /// temporary files.
     pub fn new(
         alloc: Global,
         rt: &'r R,
         is_stack: bool,
         syncs: Syncs,
+        follows: bool,
+        temporary: &str,
     ) -> Result<OpenFiles<'r, R>, AllocError> {
         let reading = Reading::new(alloc)?;
         let writing = Writing::new(alloc)?;
         let temporaries = Temporaries::new(alloc)?;
         let looks = Looks::new(alloc)?;
         let missing = Missing::new(alloc)?;
-        let directories = Directories::new(alloc, syncs)?;
+        let outlets = Outlets::new(alloc, temporary)?;
+        let directories = Directories::new(alloc, syncs, follows)?;
+        let emptied = Emptied::new(alloc)?;
         Ok(OpenFiles {
             rt,
             is_stack,
             syncs,
             reading,
+            pipes: Pipes::new(alloc),
             writing,
             saves: Saves::new(alloc, is_stack),
             temporaries,
             looks,
             missing,
+            outlets,
             directories,
+            emptied,
         })
     }
 
@@ -85,13 +102,11 @@ impl<'r, R: Files<File = File>> OpenFiles<'r, R> {
         }
     }
 
-    /// Whether a run can begin to which the words give this file: a directory there is an error, and so is a pipe or a device
-    /// where the file is needed. A link isn't followed, so it counts as no file, and so does what can't be reached.
-    pub fn find_given(&self, name: Path<'_>, is_needed: bool) -> io::Result<()> {
+    /// Whether a run can begin to which the words give this file: a directory there is an error, and so is a pipe or a device.
+    /// A link isn't followed, so it counts as no file, and so does what can't be reached.
+    pub fn find_given(&self, name: Path<'_>) -> io::Result<()> {
         match found_itself(self.rt, name.text) {
-            Ok(found) if found.is_directory || is_needed && found.is_special() => {
-                Err(not_a_file(found))
-            }
+            Ok(found) if found.is_directory || found.is_special() => Err(not_a_file(found)),
             Ok(_) => Ok(()),
             Err(error) => match or_out_of_reach(Err(error)) {
                 Ok(_) => Ok(()),
@@ -100,10 +115,52 @@ impl<'r, R: Files<File = File>> OpenFiles<'r, R> {
         }
     }
 
+    /// The same of a file that is written: a pipe or a device there, also behind a link, is written through from now on.
+    pub fn find_output(&mut self, name: Path<'_>, is_standard: bool) -> io::Result<()> {
+        let found = match found_behind(self.rt, name.text) {
+            Ok(found) => found,
+            Err(error) => or_out_of_reach(Err(error))?,
+        };
+        if is_standard || found.is_special() {
+            return self.outlets.note(name.text, is_standard);
+        }
+        self.find_given(name)
+    }
+
+    /// The size of a text, which may come from a pipe or a device where the operator gave its name.
+    pub fn size_of_text(&mut self, name: Path<'_>) -> io::Result<Option<u64>> {
+        let is_read = self.pipes.length(name.text).is_some();
+        if !is_read && name.is_given() {
+            match self.look(name) {
+                Ok(found) if found.is_special() => return self.read_pipe(name),
+                Ok(_) => {}
+                Err(error) => return Err(error),
+            }
+        }
+        self.size(name)
+    }
+
+    fn read_pipe(&mut self, name: Path<'_>) -> io::Result<Option<u64>> {
+        let file = match File::open(self.rt, name.text) {
+            Ok(file) => file,
+            Err(error) => return Err(error),
+        };
+        match self.pipes.keep(name.text, file) {
+            Ok(length) => Ok(Some(length)),
+            Err(error) => Err(error),
+        }
+    }
+
     pub fn size(&mut self, name: Path<'_>) -> io::Result<Option<u64>> {
+        if let Some(length) = self.pipes.length(name.text) {
+            return Ok(Some(length));
+        }
         let is_idle = self.temporaries.is_idle();
         if is_idle && self.looks.was_read {
             self.looks.forget();
+        }
+        if self.outlets.is_standard(name.text) {
+            return Ok(None);
         }
         let found = match self.look(name) {
             Ok(found) => found,
@@ -150,13 +207,16 @@ impl<'r, R: Files<File = File>> OpenFiles<'r, R> {
     }
 
     /// The name of the last file whose size was asked and that isn't there, and why.
-    pub fn missing(&self, alloc: Global, has_input: bool) -> Result<Option<String>, AllocError> {
-        self.missing.text(alloc, self.rt, has_input)
+    pub fn missing(&self, alloc: Global) -> Result<Option<String>, AllocError> {
+        self.missing.text(alloc, self.rt)
     }
 
     pub fn read_at(&mut self, name: Path<'_>, at: u64, buf: &mut [u8]) -> io::Result<usize>
         ensures { IfOk result (λ n. n ≤ length buf.old) }
     {
+        if let Some(bytes) = self.pipes.bytes(name.text) {
+            return Ok(part_of(bytes, at, buf));
+        }
         match self.open_to_read(name) {
             Ok(seen) => {
                 self.temporaries.saw(seen.found, true);

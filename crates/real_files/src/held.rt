@@ -213,6 +213,15 @@ impl AllHeld {
         }
     }
 
+    /// Lets the directory go that this front of a name led to: it was taken away, and another one may come in its place.
+    pub fn forget(&mut self, front: Path<'_>) {
+        for held in self.places.iter_mut() {
+            if held.text.is(front.text) {
+                held.file = None;
+            }
+        }
+    }
+
     /// A name in it is about to change.
     pub fn change(&mut self, place: usize) {
         if let Some(held) = self.places.get_mut(place) {

@@ -3,6 +3,7 @@
 
 mod changing;
 mod directories;
+mod emptied;
 mod files;
 mod found;
 mod fresh;
@@ -11,7 +12,9 @@ mod looks;
 mod missing;
 mod named;
 mod origins;
+mod outlets;
 mod paths;
+mod pipes;
 mod reading;
 mod rights;
 mod saves;

@@ -12,9 +12,6 @@ use std::rt::Files;
 /// More than the system takes of a name, so that it is told of one that is too long.
 const LONGEST_NAME: usize = 8_192;
 
-/// What is told of a pipe or a device, where standard input may be read in its place.
-const NO_PIPE: &str = "not a regular file; anything else is only read as standard input";
-
 /// What is told of a regular file that isn't reached through directories alone.
 const NO_WAY: &str = "a symbolic link is on the way to it, and isn't followed";
 
@@ -38,13 +35,8 @@ impl Missing {
         }
     }
 
-    /// The name, and why no file is read there, of a tool that may read standard input in its place.
-    pub fn text<R: Files>(
-        &self,
-        alloc: Global,
-        rt: &R,
-        has_input: bool,
-    ) -> Result<Option<String>, AllocError> {
+    /// The name, and why no file is read there.
+    pub fn text<R: Files>(&self, alloc: Global, rt: &R) -> Result<Option<String>, AllocError> {
         if self.name.len() == 0 {
             return Ok(None);
         }
@@ -52,7 +44,7 @@ impl Missing {
             text: self.name.as_str(),
             given: self.given,
         };
-        text_at(alloc, rt, path, has_input)
+        text_at(alloc, rt, path)
     }
 }
 
@@ -64,15 +56,10 @@ pub fn missing_text<R: Files>(
     rt: &R,
     name: &Name,
 ) -> Result<Option<String>, AllocError> {
-    text_at(alloc, rt, Path::of(name), false)
+    text_at(alloc, rt, Path::of(name))
 }
 
-fn text_at<R: Files>(
-    alloc: Global,
-    rt: &R,
-    path: Path<'_>,
-    has_input: bool,
-) -> Result<Option<String>, AllocError> {
+fn text_at<R: Files>(alloc: Global, rt: &R, path: Path<'_>) -> Result<Option<String>, AllocError> {
     let found = match found_at_path(rt, path.text, path.is_given()) {
         Ok(found) => found,
         Err(error) => return trouble_text(alloc, path.text, error),
@@ -81,13 +68,7 @@ fn text_at<R: Files>(
         return Ok(None);
     }
     let name = path.text;
-    let what = if found.is_file {
-        NO_WAY
-    } else if has_input && found.is_special() {
-        NO_PIPE
-    } else {
-        found.kind()
-    };
+    let what = if found.is_file { NO_WAY } else { found.kind() };
     match format!(in alloc; "{name}: {what}") {
         Ok(text) => Ok(Some(text)),
         Err(error) => Err(error),

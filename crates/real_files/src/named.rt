@@ -21,10 +21,13 @@ impl Directories {
         }
     }
 
-    /// What stands there itself, a link and not what it points to.
+    /// What stands there itself, a link and not what it points to, but where links are followed.
     pub fn look<R: Files<File = File>>(&mut self, rt: &R, place: Place<'_>) -> io::Result<Found> {
         put_path(&self.held, place, &mut self.path)?;
-        found_itself(rt, self.path.as_str())
+        match found_itself(rt, self.path.as_str()) {
+            Ok(found) if found.is_link && self.follows => found_behind(rt, self.path.as_str()),
+            found => found,
+        }
     }
 
     pub fn open<R: Files<File = File>>(
@@ -49,6 +52,26 @@ impl Directories {
     pub fn remove<R: Files<File = File>>(&mut self, rt: &R, place: Place<'_>) -> io::Result<()> {
         put_path(&self.held, place, &mut self.path)?;
         fs::remove_file(rt, self.path.as_str())
+    }
+
+    /// Takes a directory away that is empty, which the text names with the slash behind it. A link there isn't followed.
+    pub fn remove_directory<R: Files<File = File>>(
+        &mut self,
+        rt: &R,
+        front: Path<'_>,
+    ) -> io::Result<()> {
+        let name = Path {
+            text: front.text.strip_suffix("/").unwrap_or(front.text),
+            given: front.given,
+        };
+        let place = match self.open_way(rt, name, false) {
+            Ok(place) => place,
+            Err(error) => return Err(error),
+        };
+        put_path(&self.held, place, &mut self.path)?;
+        fs::remove_dir(rt, self.path.as_str())?;
+        self.held.forget(front);
+        Ok(())
     }
 
     pub fn rename<R: Files<File = File>>(

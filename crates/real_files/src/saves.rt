@@ -44,6 +44,11 @@ impl Saves {
         }
     }
 
+    /// Whether the stack keeps this file for itself.
+    pub fn is_own(&self, name: &str) -> bool {
+        self.is_stack && name.starts_with(OWN)
+    }
+
     /// A name was looked at.
     pub fn look(&mut self, name: &str, found: Found) {
         if self.is_stack && found.is_file && is_save(name) {

@@ -69,10 +69,17 @@ impl Temporary {
         matches!(self.stage, Stage::Filled)
     }
 
-    /// It is whole, and closed.
+    /// It is whole, and closed, but where it has no name by which to open it again.
     pub fn close(&mut self) {
-        self.file = None;
+        if !self.is_nameless() {
+            self.file = None;
+        }
         self.stage = Stage::Sealed;
+    }
+
+    /// Whether it is one of an output that is written through.
+    pub fn is_nameless(&self) -> bool {
+        self.real.len() == 0
     }
 }
 
