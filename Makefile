@@ -1,9 +1,12 @@
 # make          proves and builds the program: build/bin/patchkit, and a link for each tool beside it; says how far it is
-# make demo     the same, then applies a patch to a copy of examples/tree and shows the result, as soon as either compiler has built it
+# make demo     the same, then applies a patch to a copy of examples/tree and shows the result, as soon as either compiler has built it;
+#               and what a run over 200 files leaves that is killed half-way
 # make try      runs that patch before any proof
 # make test     runs the gate (rt ci), then the checks and the worked rows on real files
 # make times    prints what each crate's proof, tests and edits took, slowest crate first, as make and make test noted it
 # make deep     tries the wrong bodies that the gate leaves out (wrong-bodies); CRATES='NAME ..' takes those of some crates alone
+# make mutants  tries the wrong bodies that no contract can refuse (wrong-bodies/seen_by_scripts): each script must fail on its own; some
+#               minutes each, NAMES='NAME ..' takes those alone, and tests/mutants --list says which script sees what
 # make peers    runs the suites of GNU patch, patchutils and quilt over what was built, beside the list of what fails there (tests/peers/expected);
 #               with PEER=gnu over GNU patch and patchutils themselves
 # make install  installs the program, its manual and completions below PREFIX, with those of the tools and their names in lib/patchkit, where
@@ -18,7 +21,7 @@ DESTDIR ?=
 TOOLS = patch lsdiff filterdiff grepdiff splitdiff recountdiff reversediff patchgen patchstack
 BIN = build/bin
 
-.PHONY: all demo try test times deep peers install install-links uninstall dist deb clean
+.PHONY: all demo try test times deep mutants peers install install-links uninstall dist deb clean
 
 all:
 	@sh tests/build $(RT) $(BIN) $(TOOLS)
@@ -26,6 +29,7 @@ all:
 demo:
 	@sh tests/build --first $(RT) $(BIN) $(TOOLS)
 	@sh examples/demo build/first
+	@sh examples/stop build/first
 
 try:
 	@sh examples/try $(RT)
@@ -54,6 +58,9 @@ times:
 
 deep:
 	@python3 tests/deep $(RT) $(CRATES)
+
+mutants:
+	@python3 tests/mutants $(RT) $(NAMES)
 
 peers:
 	@PEER=$(PEER) python3 tests/peers/run $(BIN)

@@ -51,11 +51,6 @@ def refused_text(case, theirs, ours, found):
     return ['filter-refuses'] if case.facts.get('damaged') else []
 
 
-def refused_pipe(case, theirs, ours, found):
-    """Ours reads no pipe that is named."""
-    return ['filter-pipes'] if ours.status == [2] and 'not a regular file' in told(ours) and '/dev/stdin' in case.runs[0].words else []
-
-
 def refused_pattern(case, theirs, ours, found):
     """Ours reads a basic expression as an extended one, and can't."""
     return ['basic-patterns'] if ours.status == [2] and "the pattern can't be read" in told(ours) and '-E' not in case.runs[0].words else []
@@ -162,7 +157,7 @@ def fewest(case, theirs, ours, changes):
     return sorted({key for key, _ in needed})
 
 
-REASONS = (refusal_status, said_again, refused_words, refused_text, refused_pipe, refused_pattern, missing_recounted, pattern_files, cut, printed, other_numbers)
+REASONS = (refusal_status, said_again, refused_words, refused_text, refused_pattern, missing_recounted, pattern_files, cut, printed, other_numbers)
 
 
 def key_of(case, theirs, ours, found):

@@ -118,8 +118,8 @@ def links(case, _gnu, _ours, differences):
 
 @REASONS.of("name-bytes")
 def name_bytes(case, _gnu, _ours, differences):
-    """A file whose name isn't in quotes and isn't in UTF-8, or has a control byte, is found there and not here."""
-    return of_names(differences, all_names(part for part in parts_of(case) if "quoted" not in part.marks and not all(map(is_plain, part.names))))
+    """A file whose name isn't in UTF-8, or has a control byte, is found there and not here."""
+    return of_names(differences, all_names(part for part in parts_of(case) if not all(map(is_plain, part.names))))
 
 
 def is_plain(name):
@@ -139,16 +139,6 @@ def newline_names(case, _gnu, _ours, differences):
     """A file whose name has a line feed."""
     named = [part for part in parts_of(case) if "newline" in part.marks]
     return of_names(differences, all_names(named) | spelled_names(named))
-
-
-@REASONS.of("quoted-names")
-def quoted_names(case, _gnu, _ours, differences):
-    """A file whose name stands in double quotes: it is found there, and not here or under the spelled name."""
-    parts = [part for part in parts_of(case) if "quoted" in part.marks]
-    names = all_names(parts) | spelled_names(parts)
-    tops = {name.split(b"/")[0] + b"/" for name in names if b'"' in name}
-    spelled = [each for each in differences if each.what == "extra" and (each.name + b"/").startswith(tuple(tops))]
-    return of_names(differences, names) + spelled
 
 
 @REASONS.of("renamed-already")
@@ -189,13 +179,6 @@ def blanks_in_git_names(case, _gnu, _ours, differences):
     return of_names(differences, all_names(part for part in parts if any(b" " in name or b"\t" in name for name in part.names)))
 
 
-@REASONS.of("no-prefix-names")
-def no_prefix_names(case, _gnu, _ours, differences):
-    """An empty file in the top directory whose name stands in git's first line alone, without a prefix: no name here."""
-    bare = [part for part in parts_of(case) if "git" in part.marks and not part.hunks and not moves_of([part]) and strip_count(case) == 0]
-    return of_names(differences, {name for part in bare for name in part.names if b"/" not in name})
-
-
 @REASONS.of("failed-renames")
 def failed_renames(case, _gnu, ours, differences):
     """A rename or a copy of which each hunk failed: it is made there, and not here."""
@@ -203,19 +186,10 @@ def failed_renames(case, _gnu, ours, differences):
     return of_files(differences, all_names(kept)) if says(ours, b"FAILED") else []
 
 
-@REASONS.of("gone-already")
-def empty_again(case, _gnu, _ours, differences):
-    """An empty file that git makes and that is there, or takes away and that is gone."""
-    def is_done(part, name):
-        return (("new file mode" in part.marks) != is_reversed(case)) == (name in case.tree)
-    bare = [part for part in parts_of(case) if part.marks & {"new file mode", "deleted file mode"} and not part.hunks]
-    return of_names(differences, {name for part in bare for name in part.names if is_done(part, name)})
-
-
 @REASONS.of("emptied-directories")
-def directories_of_gone(case, _gnu, ours, differences):
-    """A directory that the run made for a file which it then took away again, or moved on."""
-    names = all_names(parts_of(case))
+def directories_of_none(case, _gnu, ours, differences):
+    """A directory that the run made for a file which then stayed away."""
+    names = all_names(parts_of(case)) - set(case.tree)
     holds = {name for name, it in ours.shape.items() if it[0] != "dir"}
     def is_empty(each):
         return any(name.startswith(each.name + b"/") for name in names) and not any(name.startswith(each.name + b"/") for name in holds)

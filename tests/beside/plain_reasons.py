@@ -1,4 +1,5 @@
 """Why files, backups and rejects differ where both programs carried out the patch."""
+import os
 import re
 
 from case import Reasons
@@ -54,10 +55,11 @@ def reject_modes(case, gnu, ours, differences):
 
 @REASONS.of("emptied-directories")
 def emptied_directories(case, gnu, ours, differences):
-    """Directories of the tree that are empty now, and still there."""
+    """Directories of files that the words name, which are empty now, and still there."""
+    named = above({os.fsencode(word) for run in case.runs for word in run.words} & set(case.tree))
     emptied = {name for name, found in ours.shape.items() if found[0] == "dir" or (found[2] == b"" and name not in gnu.shape)}
     full = above({name for name in ours.shape if name not in emptied})
-    return [each for each in of(differences, "extra", names=above(case.tree)) if each.ours[0] == "dir" and each.name not in full]
+    return [each for each in of(differences, "extra", names=named) if each.ours[0] == "dir" and each.name not in full]
 
 
 @REASONS.of("backup-unplaced")
@@ -216,9 +218,9 @@ def forced_forward(case, gnu, ours, differences):
 
 @REASONS.of("gone-already")
 def gone_already(case, gnu, ours, differences):
-    """A file to be removed or emptied that is gone or empty."""
+    """With -f a file to be removed or emptied that is gone or empty."""
     found = []
     for piece in file_patches(texts_of(case)):
-        if sides(case, piece)[1]:
+        if sides(case, piece)[1] and has(case, "-f", "--force"):
             found += about(case, differences, {name for name in names_of(case, piece) if not original(case, name)})
-    return with_status(found, gnu, ours, differences, (0, 1), (2, 1))
+    return with_status(found, gnu, ours, differences, (2, 1))

@@ -8,7 +8,6 @@ from seen import refused as refused_whole, untouched
 
 REASONS = Reasons()
 INDENTED = re.compile(rb"(?m)^[ \t]+(?:\*\*\*|---|\+\+\+) \S")
-LOST_BLANK = re.compile(rb"(?m)^(?:\t.*)?$")
 DAMAGED = ("mangled_context", "cut_text", "numbers", "headerless", "lost_blanks", "indented", "nul_bytes")
 COMMAND = re.compile(rb"(?m)^\d+(?:,\d+)?[acd]\d*$")
 
@@ -21,15 +20,6 @@ def refused(case, gnu, ours):
 def is_context(case):
     """Returns whether the text is of the context form."""
     return re.search(rb"(?m)^\*\*\* \d+(,\d+)? \*\*\*\*", text_of(case)) is not None
-
-
-@REASONS.of("stripped-cr")
-def stripped_returns(case, gnu, ours, differences):
-    """A text whose lines end in carriage return and line feed: there they are taken off."""
-    if b"\r\n" not in text_of(case):
-        return []
-    stripped = "--binary" not in case.runs[0].words
-    return differences if refused(case, gnu, ours) else of_names(differences, all_names(parts_of(case))) if stripped else []
 
 
 @REASONS.of("indented")
@@ -51,6 +41,13 @@ def numbers_below_one(_case, _gnu, _ours, differences):
     return [each for each in differences if each.what == "bytes" and each.name.endswith(b".rej") and re.search(rb"\n@@ -(?:-|0,[1-9])", each.gnu)]
 
 
+@REASONS.of("reject-headers")
+def ranges_with_returns(_case, _gnu, _ours, differences):
+    """A context reject of a patch whose range lines end in carriage returns: there these lose their stars, or have a dash more."""
+    cut = re.compile(rb"\n\*\*\* \d+(?:,\d+)?\n(?s:.)*\n--- \d+(?:,\d+)? -----\n")
+    return [each for each in differences if each.what == "bytes" and each.name.endswith(b".rej") and cut.search(each.gnu)]
+
+
 @REASONS.of("malformed-refuses-all")
 def malformed(case, gnu, ours, differences):
     """A text that both refuse: there, behind what stands in front of the malformed line, here as a whole."""
@@ -58,16 +55,9 @@ def malformed(case, gnu, ours, differences):
     return differences if both and case.kind in DAMAGED else []
 
 
-@REASONS.of("lost-blanks")
-def lost_blanks(case, gnu, ours, differences):
-    """A unified hunk with an empty line, or one that begins with a tab, is malformed here."""
-    lost = not is_context(case) and LOST_BLANK.search(text_of(case).rstrip(b"\n")) and says(ours, b"malformed patch")
-    return differences if lost and refused(case, gnu, ours) and case.kind == "lost_blanks" else []
-
-
 @REASONS.of("mangled-context")
 def mangled_context(case, gnu, ours, differences):
-    """A context hunk with a lost blank, without one half, without its end or its row of stars is malformed here."""
+    """A context hunk whose halves differ by a lost blank, or that has lost lines of a half, its end or its row of stars, is refused here."""
     mangled = case.kind in ("mangled_context", "cut_text") and is_context(case)
     return differences if mangled and refused(case, gnu, ours) else []
 

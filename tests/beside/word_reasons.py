@@ -2,7 +2,7 @@
 import re
 
 from case import Reasons
-from seen import backed_up, bytes_in, file_patches, has, of, original, refused, stop, texts_of, told, unreached, words_of
+from seen import backed_up, bytes_in, file_patches, has, of, original, refused, texts_of, told, unreached, words_of
 
 REASONS = Reasons()
 
@@ -25,22 +25,10 @@ def set_times(case, gnu, ours, differences):
     return differences if asked and is_answered(case, gnu, ours) else []
 
 
-@REASONS.of("follow-symlinks")
-def follow_symlinks(case, gnu, ours, differences):
-    """--follow-symlinks is refused."""
-    return differences if is_answered(case, gnu, ours) and has(case, "--follow-symlinks") else []
-
-
 @REASONS.of("merge")
 def merge(case, gnu, ours, differences):
     """--merge is refused."""
     return differences if is_answered(case, gnu, ours) and has(case, "--merge") else []
-
-
-@REASONS.of("output-devices")
-def output_to_standard(case, gnu, ours, differences):
-    """-o - is refused."""
-    return differences if is_answered(case, gnu, ours) and re.search(r"-o ?-( |$)", words_of(case)) else []
 
 
 @REASONS.of("backup-names")
@@ -53,12 +41,12 @@ def backup_words(case, gnu, ours, differences):
 
 @REASONS.of("option-words")
 def option_words(case, gnu, ours, differences):
-    """Words that exclude each other, and others of no effect, which ours refuses."""
+    """Words that exclude each other, which ours refuses."""
     if not is_answered(case, gnu, ours):
         return []
     said = set(flags(case))
     exclusive = {"backup-if-mismatch", "no-backup-if-mismatch"} <= said or ("verbose" in said and said & {"s", "silent"})
-    return differences if exclusive or "x" in said else []
+    return differences if exclusive else []
 
 
 @REASONS.of("environment")
@@ -80,14 +68,6 @@ def moved_backups(case, differences):
     written = {file: each.ours if each.what == "bytes" else each.ours[2] for file, each in mine.items()}
     both = [file for file in theirs if file is not None and theirs[file].gnu[2] == written.get(file)]
     return [side[file] for file in both for side in (theirs, mine)]
-
-
-@REASONS.of("output-devices")
-def devices(case, gnu, ours, differences):
-    """-o and -r of a device end the run with status 2."""
-    if not re.search(r"-[or] ?/dev/null", words_of(case)) or stop(gnu, ours) != "ours":
-        return []
-    return unreached(case, gnu, ours, differences, "ours") or of(differences, "status")
 
 
 @REASONS.of("output-several")
