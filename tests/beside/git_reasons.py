@@ -75,11 +75,18 @@ def modes_alone(case, gnu, ours, differences):
     return differences if parts and all("mode" in part.marks and not part.hunks for part in parts) else []
 
 
+def alone_of(parts):
+    """Returns the file patches by which nothing but a mode changes."""
+    return [part for part in parts if {"old mode", "new mode"} <= part.marks and not part.hunks and not part.marks & {"rename", "copy"}]
+
+
 @REASONS.of("git-modes")
 def modes_of_files(case, _gnu, _ours, differences):
-    """The permission bits of files whose mode git sets."""
-    names = names_of(parts_of(case), "mode")
-    return [each for each in differences if each.what == "mode" and owner(each.name) in names]
+    """The bits that git's modes don't tell of, and all where nothing but the mode changes."""
+    parts = parts_of(case)
+    names, alone = names_of(parts, "mode"), all_names(alone_of(parts))
+    found = [each for each in differences if each.what == "mode" and owner(each.name) in names]
+    return [each for each in found if owner(each.name) in alone or not (each.gnu ^ each.ours) & 0o100]
 
 
 @REASONS.of("git-modes")

@@ -31,6 +31,9 @@ pub record PlainHeader : Type 0 where
   -- the names that a file is renamed or copied from and to
   pub from : Option (List ℕ)
   pub to : Option (List ℕ)
+  -- what a git header says of the modes of the old and the new file
+  pub old_mode : Option (List ℕ)
+  pub new_mode : Option (List ℕ)
 
 -- hunks, or the edits of an ed script; a bare git header has no hunk
 pub data PlainChange : Type 0 where
@@ -61,6 +64,8 @@ header_of text h = record {
   bare = h.bare;
   from = bytes_in text h.from;
   to = bytes_in text h.to;
+  old_mode = bytes_in text h.old_mode;
+  new_mode = bytes_in text h.new_mode;
 }
 
 -- what a change stands for

@@ -52,6 +52,8 @@ header_again form h = record {
   bare = false;
   from = None;
   to = None;
+  old_mode = None;
+  new_mode = None;
 }
 
 -- a name that an `Index:` line gives back: no space comes first, and it holds no tab, or all of it is in quotes

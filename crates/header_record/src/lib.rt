@@ -1,10 +1,12 @@
 //! A header as a record: what the lines in front of the opening of a file patch say.
 #![tactic(auto)]
 
+mod modes;
 mod quoted;
 
 use hunk_core::Form;
 use line_list::Span;
+pub use modes::is_executable;
 pub use quoted::{begins_quoted, quoted_length, quotes_are_read_back, unquoted};
 use stamp::Stamp;
 
@@ -49,4 +51,8 @@ pub struct Header {
     pub from: Option<Span>,
     /// The name that the file is renamed or copied to, up to the end of its line.
     pub to: Option<Span>,
+    /// What the git header says of the old file's mode, up to the end of its line.
+    pub old_mode: Option<Span>,
+    /// What it says of the new file's mode.
+    pub new_mode: Option<Span>,
 }

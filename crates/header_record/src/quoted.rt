@@ -37,7 +37,8 @@ fn letter_byte(letter: u8) -> Option<u8>
     }
 }
 
-fn is_octal(byte: u8) -> bool
+/// Whether a byte is `0` to `7`.
+pub fn is_octal(byte: u8) -> bool
     ensures { result ≡ is_octal byte }
 {
     b'0' <= byte && byte <= b'7'

@@ -78,6 +78,10 @@ impl Tree for ChangingFile {
         self.fails()
     }
 
+    fn set_executable(&mut self, _temp: &Name, _executable: bool) -> Result<(), Failed> {
+        self.fails()
+    }
+
     fn seal(&mut self, _temp: &Name) -> Result<(), Failed> {
         self.fails()
     }

@@ -5,8 +5,8 @@ use Rattle.std.proofs.lemmas.List.{reverse-append}
 use Rattle.hunk_core.specs.declared.Form.{Form}
 use Rattle.patch_header.specs.Content.{content}
 use Rattle.patch_header.specs.GitHeaders.{starts, is_git_line, is_extended, has_line, action_of}
-use Rattle.patch_header.specs.GitRows.{lines_of, git_lines_in, from_by, to_by, from_in, to_in, with_row, header_back, old_name_back, new_name_back, led_rows, is_unified, led_by}
-use Rattle.patch_header.specs.Region.{Row, rows, tail_of, first_some, last_tail}
+use Rattle.patch_header.specs.GitRows.{lines_of, old_mode_of, new_mode_of, git_lines_in, from_by, to_by, from_in, to_in, with_row, header_back, old_name_back, new_name_back, led_rows, is_unified, led_by}
+use Rattle.patch_header.specs.Region.{Row, rows, tail_of, first_some, last_tail, later}
 use Rattle.patch_header.specs.Said.{said_with, action_said, from_by_said, to_by_said, from_said, to_said, push_said, header_said, kept_if, trail_said, said_in, trail_back, trail_in, or_nothing, led_said}
 use Rattle.patch_header.specs.declared.region.Tail.{Tail}
 use Rattle.patch_header.specs.declared.ways.Ways.{Ways}
@@ -35,22 +35,23 @@ pub has-push : (mark : List ℕ) (rs : List Row) (r : Row) → has_line mark (li
 has-push mark [] r = or_false (starts mark r.line)
 has-push mark (x ∷ rs) r = ap (λ v. starts mark x.line || v) (has-push mark rs r) ∙ or-assoc (starts mark x.line) (has_line mark (lines_of rs)) (starts mark r.line)
 
-pub tail-push : (mark : List ℕ) (rs : List Row) (r : Row) → last_tail mark (rs ++ r ∷ []) ≡ cond (is_some (tail_of mark r)) (tail_of mark r) (last_tail mark rs)
-tail-push mark rs r = ap (first_some (tail_of mark)) (reverse-append rs (r ∷ []))
+last-push : (f : Row → Option Tail) (rs : List Row) (r : Row) → first_some f (reverse (rs ++ r ∷ [])) ≡ later (first_some f (reverse rs)) (f r)
+last-push f rs r = ap (first_some f) (reverse-append rs (r ∷ []))
 
-abbrev made : Bool → Bool → Option Tail → Option Tail → Option Tail → Option Tail → GitLines
-made n d a b c e = record { is_new = n; is_deleted = d; rename_from = a; rename_to = b; copy_from = c; copy_to = e }
+pub tail-push : (mark : List ℕ) (rs : List Row) (r : Row) → last_tail mark (rs ++ r ∷ []) ≡ later (last_tail mark rs) (tail_of mark r)
+tail-push mark rs r = last-push (tail_of mark) rs r
 
 pub said-push : (rs : List Row) (r : Row) → git_lines_in (rs ++ r ∷ []) ≡ said_with (git_lines_in rs) r
-said-push rs r =
-    let all = rs ++ r ∷ [] in
-    let s = said_with (git_lines_in rs) r in
-    ap (λ v. made v (has_line (codes "deleted file mode ") (lines_of all)) (last_tail (codes "rename from ") all) (last_tail (codes "rename to ") all) (last_tail (codes "copy from ") all) (last_tail (codes "copy to ") all)) (has-push (codes "new file mode ") rs r)
-    ∙ ap (λ v. made s.is_new v (last_tail (codes "rename from ") all) (last_tail (codes "rename to ") all) (last_tail (codes "copy from ") all) (last_tail (codes "copy to ") all)) (has-push (codes "deleted file mode ") rs r)
-    ∙ ap (λ v. made s.is_new s.is_deleted v (last_tail (codes "rename to ") all) (last_tail (codes "copy from ") all) (last_tail (codes "copy to ") all)) (tail-push (codes "rename from ") rs r)
-    ∙ ap (λ v. made s.is_new s.is_deleted s.rename_from v (last_tail (codes "copy from ") all) (last_tail (codes "copy to ") all)) (tail-push (codes "rename to ") rs r)
-    ∙ ap (λ v. made s.is_new s.is_deleted s.rename_from s.rename_to v (last_tail (codes "copy to ") all)) (tail-push (codes "copy from ") rs r)
-    ∙ ap (λ v. made s.is_new s.is_deleted s.rename_from s.rename_to s.copy_from v) (tail-push (codes "copy to ") rs r)
+said-push rs r = λ i. record {
+  is_new = has-push (codes "new file mode ") rs r i;
+  is_deleted = has-push (codes "deleted file mode ") rs r i;
+  rename_from = tail-push (codes "rename from ") rs r i;
+  rename_to = tail-push (codes "rename to ") rs r i;
+  copy_from = tail-push (codes "copy from ") rs r i;
+  copy_to = tail-push (codes "copy to ") rs r i;
+  old_mode = last-push old_mode_of rs r i;
+  new_mode = last-push new_mode_of rs r i;
+}
 
 -- ---- what the lines say
 

@@ -1,14 +1,10 @@
 -- The last line of each kind, with one line more.
-use Rattle.std.proofs.Common.{◌≡◌, Option, None, Some, cond, List, [], ◌∷◌, ◌++◌, refl}
-use Rattle.std.specs.Prelude.{IfSome, codes, is_some}
-use Rattle.patch_header.specs.Region.{Row, tail_of, seen_in}
+use Rattle.std.proofs.Common.{◌≡◌, Option, None, Some, List, [], ◌∷◌, ◌++◌, refl}
+use Rattle.std.specs.Prelude.{IfSome, codes}
+use Rattle.patch_header.specs.Region.{Row, tail_of, later, seen_in}
 use Rattle.patch_header.specs.declared.region.Tail.{Tail}
 use Rattle.patch_header.specs.declared.region.Seen.{Seen}
 use Rattle.patch_header.proofs.GitLemmas.{tail-push}
-
--- the new one where it is there, else the last
-abbrev pub later : Option Tail → Option Tail → Option Tail
-later last new = cond (is_some new) new last
 
 pub later-lies : (P : Tail → Type 0) (last new found : Option Tail) → found ≡ later last new → IfSome last P → IfSome new P → IfSome found P
 later-lies P last None found is old fresh = rw is old

@@ -5,7 +5,7 @@ use Rattle.line_list.specs.declared.Span.{Span}
 use Rattle.hunk_core.specs.declared.Form.{Form}
 use Rattle.hunk_core.specs.declared.Form.TheVariants.{Unified, Context, Normal, Ed}
 use Rattle.patch_header.specs.GitHeaders.{starts, is_git_line, is_extended, extended_run, has_line, action_of}
-use Rattle.patch_header.specs.Region.{Row, row, rows, tail_of, last_tail}
+use Rattle.patch_header.specs.Region.{Row, row, rows, tail_of, first_some, last_tail, later}
 use Rattle.header_record.specs.Quoted.{begins_quoted}
 use Rattle.patch_header.specs.Values.{blanks, length_or, word_length, span_at, bytes_of}
 use Rattle.patch_header.specs.declared.bare.Pair.{Pair}
@@ -20,6 +20,20 @@ abbrev pub lines_of : List Row → List (List ℕ)
 lines_of [] = []
 lines_of (r ∷ rs) = r.line ∷ lines_of rs
 
+-- what a line says of the old file's mode, and of the new file's
+abbrev pub old_mode_of : Row → Option Tail
+old_mode_of r = later (tail_of (codes "old mode ") r) (tail_of (codes "deleted file mode ") r)
+
+abbrev pub new_mode_of : Row → Option Tail
+new_mode_of r = later (tail_of (codes "new mode ") r) (tail_of (codes "new file mode ") r)
+
+-- what the last line says that speaks of it
+abbrev pub old_mode_in : List Row → Option Tail
+old_mode_in rs = first_some old_mode_of (reverse rs)
+
+abbrev pub new_mode_in : List Row → Option Tail
+new_mode_in rs = first_some new_mode_of (reverse rs)
+
 -- of these extended lines: whether there is one of a kind, or the last of a kind
 abbrev pub git_lines_in : List Row → GitLines
 git_lines_in rs = record {
@@ -29,11 +43,13 @@ git_lines_in rs = record {
   rename_to = last_tail (codes "rename to ") rs;
   copy_from = last_tail (codes "copy from ") rs;
   copy_to = last_tail (codes "copy to ") rs;
+  old_mode = old_mode_in rs;
+  new_mode = new_mode_in rs;
 }
 
 -- ---- names
 
--- a name up to the end of the line; no byte is no name
+-- all up to the end of the line; no byte is none
 abbrev pub whole_in : Option Tail → Option Span
 whole_in None = None
 whole_in (Some t) = span_at t.start (t.end - t.start)

@@ -3,7 +3,7 @@ use Rattle.std.specs.Prelude.{ℕ, true, false, List, codes, Option}
 use Rattle.hunk_core.specs.declared.Form.{Form}
 use Rattle.hunk_core.specs.declared.Form.TheVariants.{Unified}
 use Rattle.stamp.specs.declared.Stamp.TheVariants.{Unknown}
-use Rattle.patch_header.specs.GitRows.{old_half, new_half}
+use Rattle.patch_header.specs.GitRows.{old_half, new_half, whole_in}
 use Rattle.patch_header.specs.Region.{Row, last_tail, old_tail, new_tail}
 use Rattle.patch_header.specs.Said.{action_said, from_said, to_said}
 use Rattle.patch_header.specs.Steps.{names_line}
@@ -29,6 +29,8 @@ opening_said text form at opening rs s = record {
   bare = false;
   from = from_said s;
   to = to_said s;
+  old_mode = whole_in s.old_mode;
+  new_mode = whole_in s.new_mode;
 }
 
 -- that of a bare git header, with the rest of its git line and with what its extended lines say
@@ -48,4 +50,6 @@ bare_said text at number rs rest s = record {
   bare = true;
   from = from_said s;
   to = to_said s;
+  old_mode = whole_in s.old_mode;
+  new_mode = whole_in s.new_mode;
 }

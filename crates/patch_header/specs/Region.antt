@@ -34,6 +34,10 @@ first_some f (x ∷ xs) = if is_some (f x) then f x else first_some f xs
 abbrev pub last_tail : List ℕ → List Row → Option Tail
 last_tail mark rs = first_some (tail_of mark) (reverse rs)
 
+-- a new one, or else the last one
+abbrev pub later : {A : Type 0} → Option A → Option A → Option A
+later last new = if is_some new then new else last
+
 -- the last line of each kind
 abbrev pub seen_in : List Row → Seen
 seen_in rs = record {

@@ -3,18 +3,13 @@ use Rattle.std.specs.Prelude.{ℕ, Bool, ◌&&◌, ◌||◌, List, [], reverse, 
 use Rattle.line_list.specs.declared.Span.{Span}
 use Rattle.hunk_core.specs.declared.Form.{Form}
 use Rattle.patch_header.specs.GitHeaders.{starts, is_git_line, is_extended}
-use Rattle.patch_header.specs.GitRows.{git_lines_in, whole_in, header_back, old_name_back, new_name_back, is_unified}
-use Rattle.patch_header.specs.Region.{Row, tail_of, LiesIn}
-use Rattle.patch_header.specs.declared.region.Tail.{Tail}
+use Rattle.patch_header.specs.GitRows.{old_mode_of, new_mode_of, git_lines_in, whole_in, header_back, old_name_back, new_name_back, is_unified}
+use Rattle.patch_header.specs.Region.{Row, tail_of, later, LiesIn}
 use Rattle.patch_header.specs.declared.ways.Ways.{Ways}
 use Rattle.header_record.specs.declared.Action.{Action}
 use Rattle.header_record.specs.declared.Action.TheVariants.{Plain, New, Deleted, Rename, Copy}
 use Rattle.patch_header.specs.declared.git_lines.GitLines.{GitLines}
 use Rattle.patch_header.specs.declared.git_trail.GitTrail.{GitTrail}
-
--- a new tail, or else the last one
-abbrev pub later : Option Tail → Option Tail → Option Tail
-later last new = if is_some new then new else last
 
 -- one more extended line
 abbrev pub said_with : GitLines → Row → GitLines
@@ -25,6 +20,8 @@ said_with s r = record {
   rename_to = later s.rename_to (tail_of (codes "rename to ") r);
   copy_from = later s.copy_from (tail_of (codes "copy from ") r);
   copy_to = later s.copy_to (tail_of (codes "copy to ") r);
+  old_mode = later s.old_mode (old_mode_of r);
+  new_mode = later s.new_mode (new_mode_of r);
 }
 
 abbrev pub has_rename : GitLines → Bool
@@ -102,6 +99,8 @@ pub record SaysWithin (text : List ℕ) (s : GitLines) : Type 0 where
   pub rename_to : IfSome s.rename_to (LiesIn text)
   pub copy_from : IfSome s.copy_from (LiesIn text)
   pub copy_to : IfSome s.copy_to (LiesIn text)
+  pub old_mode : IfSome s.old_mode (LiesIn text)
+  pub new_mode : IfSome s.new_mode (LiesIn text)
 
 pub record TrailsWithin (text : List ℕ) (t : GitTrail) : Type 0 where
   pub header : IfSome t.header (SaysWithin text)

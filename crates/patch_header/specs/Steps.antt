@@ -9,7 +9,7 @@ use Rattle.patch_header.specs.Content.{has_dot}
 use Rattle.patch_header.specs.Openings.{admits, begins, stop_at}
 use Rattle.patch_header.specs.Region.{Row, rows, last_tail, old_tail, new_tail}
 use Rattle.patch_header.specs.GitHeaders.{action_of, begins_bare}
-use Rattle.patch_header.specs.GitRows.{lines_of, from_in, to_in, old_half, new_half, git_rest, extended_rows, led_by}
+use Rattle.patch_header.specs.GitRows.{lines_of, from_in, to_in, whole_in, old_mode_in, new_mode_in, old_half, new_half, git_rest, extended_rows, led_by}
 use Rattle.patch_header.specs.Values.{name_in, index_in, word_in, stamp_in, IsPieceOf}
 use Rattle.patch_header.specs.declared.openings.Stop.{Stop}
 use Rattle.patch_header.specs.declared.openings.Stop.TheVariants as stops
@@ -54,6 +54,8 @@ header_with text form at opening rs gs = record {
   bare = false;
   from = from_in gs;
   to = to_in gs;
+  old_mode = whole_in (old_mode_in gs);
+  new_mode = whole_in (new_mode_in gs);
 }
 
 -- what a bare git header at a place says, whose git line has this number; `Index:` and `Prereq:` come from the lines in front of it
@@ -73,6 +75,8 @@ bare_with text at number rs = record {
   bare = true;
   from = from_in (extended_rows number at (lines (drop at text)));
   to = to_in (extended_rows number at (lines (drop at text)));
+  old_mode = whole_in (old_mode_in (extended_rows number at (lines (drop at text))));
+  new_mode = whole_in (new_mode_in (extended_rows number at (lines (drop at text))));
 }
 
 -- the header of what stands at a place behind these lines; a binary line has none
@@ -132,7 +136,7 @@ step_behind ways text at line region (Some stop) = found_or (line + length regio
 abbrev pub next_step : Ways → List ℕ → ℕ → ℕ → HeaderStep
 next_step ways text at line = step_behind ways text at line (region_of ways (lines (drop at text))) (first_stop ways (lines (drop at text)))
 
--- each name of a header is a piece of the text
+-- each name and each mode of a header is a piece of the text
 pub record HasPieces (text : List ℕ) (h : Header) : Type 0 where
   pub old_name : IfSome h.old_name (IsPieceOf text)
   pub new_name : IfSome h.new_name (IsPieceOf text)
@@ -140,6 +144,8 @@ pub record HasPieces (text : List ℕ) (h : Header) : Type 0 where
   pub prereq : IfSome h.prereq (IsPieceOf text)
   pub from : IfSome h.from (IsPieceOf text)
   pub to : IfSome h.to (IsPieceOf text)
+  pub old_mode : IfSome h.old_mode (IsPieceOf text)
+  pub new_mode : IfSome h.new_mode (IsPieceOf text)
 
 -- an opening of its form, which is admitted, stands at its place
 pub record IsOpeningAt (ways : Ways) (text : List ℕ) (h : Header) : Type 0 where
@@ -158,6 +164,8 @@ pub record IsUnled (h : Header) : Type 0 where
   pub action : h.action ≡ Plain
   pub from : h.from ≡ None
   pub to : h.to ≡ None
+  pub old_mode : h.old_mode ≡ None
+  pub new_mode : h.new_mode ≡ None
 
 -- where a header lies, and what stands there
 pub record LiesBehind (ways : Ways) (text : List ℕ) (at line : ℕ) (h : Header) : Type 0 where

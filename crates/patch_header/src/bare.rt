@@ -20,7 +20,7 @@ use crate::git_lines::{
     with_line,
 };
 use crate::region::{Seen, Tail, tail_of};
-use crate::values::{blanks, index_in, length_or, span_at, word_in, word_length};
+use crate::values::{blanks, index_in, length_or, span_at, whole_in, word_in, word_length};
 use bstr::ByteSlice;
 use header_record::{Header, begins_quoted};
 use hunk_core::Form;
@@ -330,6 +330,8 @@ fn bare_header(
         bare: true,
         from: from_in(text, lines),
         to: to_in(text, lines),
+        old_mode: whole_in(text, lines.old_mode),
+        new_mode: whole_in(text, lines.new_mode),
     }
 }
 

@@ -2,10 +2,10 @@
 
 ghost use Rattle.std.specs.Prelude.{◌≡◌, ◌<◌, ◌^◌, ◌||◌, ℕ, List, [], length, slice_range, IfSome};
 ghost use Rattle.line_list.specs.Lines.{IsLineAt};
-ghost use Rattle.patch_header.specs.Region.{row};
+ghost use Rattle.patch_header.specs.Region.{row, LiesIn};
 ghost use Rattle.patch_header.specs.Values.{IsPieceOf};
 ghost use Rattle.patch_header.specs.GitHeaders.{starts, is_git_line, is_mode_line, is_name_line, is_index_line, is_extended, is_plain};
-ghost use Rattle.patch_header.specs.GitRows.{git_lines_in};
+ghost use Rattle.patch_header.specs.GitRows.{old_mode_of, new_mode_of, git_lines_in};
 ghost use Rattle.patch_header.specs.Said.{said_with, has_rename, has_copy, action_said, from_said, to_said, SaysWithin};
 
 use crate::content::content;
@@ -24,6 +24,8 @@ pub struct GitLines {
     pub rename_to: Option<Tail>,
     pub copy_from: Option<Tail>,
     pub copy_to: Option<Tail>,
+    pub old_mode: Option<Tail>,
+    pub new_mode: Option<Tail>,
 }
 
 /// Whether a line begins with the mark.
@@ -85,6 +87,8 @@ pub fn no_git_lines() -> GitLines
         rename_to: None,
         copy_from: None,
         copy_to: None,
+        old_mode: None,
+        new_mode: None,
     }
 }
 
@@ -92,6 +96,30 @@ fn either(first: bool, second: bool) -> bool
     ensures { result ≡ (first || second) }
 {
     first || second
+}
+
+/// What the line says of the old file's mode.
+fn old_mode_of(number: u64, text: &[u8], at: usize, end: usize) -> Option<Tail>
+    requires { IsLineAt text.now at end }
+    ensures is { result ≡ old_mode_of (row number at (slice_range text.now at end)) }
+    ensures lies { IfSome result (LiesIn text.now) }
+{
+    later(
+        tail_of(b"old mode ", number, text, at, end),
+        tail_of(b"deleted file mode ", number, text, at, end),
+    )
+}
+
+/// What the line says of the new file's mode.
+fn new_mode_of(number: u64, text: &[u8], at: usize, end: usize) -> Option<Tail>
+    requires { IsLineAt text.now at end }
+    ensures is { result ≡ new_mode_of (row number at (slice_range text.now at end)) }
+    ensures lies { IfSome result (LiesIn text.now) }
+{
+    later(
+        tail_of(b"new mode ", number, text, at, end),
+        tail_of(b"new file mode ", number, text, at, end),
+    )
 }
 
 /// The extended lines, the line from `at` up to `end` with them.
@@ -118,6 +146,8 @@ pub fn with_line(lines: GitLines, number: u64, text: &[u8], at: usize, end: usiz
             tail_of(b"copy from ", number, text, at, end),
         ),
         copy_to: later(lines.copy_to, tail_of(b"copy to ", number, text, at, end)),
+        old_mode: later(lines.old_mode, old_mode_of(number, text, at, end)),
+        new_mode: later(lines.new_mode, new_mode_of(number, text, at, end)),
     }
 }
 

@@ -10,7 +10,7 @@ ghost use Rattle.patch_header.specs.Kept.{opening_said};
 
 use crate::git_lines::{GitLines, action_of, from_in, to_in};
 use crate::region::{Seen, Tail};
-use crate::values::{index_in, name_in, stamp_in, word_in};
+use crate::values::{index_in, name_in, stamp_in, whole_in, word_in};
 use header_record::Header;
 use hunk_core::Form;
 use line_list::Span;
@@ -87,5 +87,7 @@ pub fn header_of(
         bare: false,
         from: from_in(text, led),
         to: to_in(text, led),
+        old_mode: whole_in(text, led.old_mode),
+        new_mode: whole_in(text, led.new_mode),
     }
 }

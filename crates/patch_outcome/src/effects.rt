@@ -30,8 +30,8 @@ use hunk_core::{Side, Verdict};
 use outside::{Failed, Tree};
 use patch_options::Options;
 use patch_task::{
-    Made, RunFault, acts_new, is_bare, is_same, keep_old, renames, takes_files, write_moved,
-    write_placed,
+    Made, RunFault, acts_new, is_bare, is_same, keep_old, mode_asked, renames, takes_files,
+    write_moved, write_placed,
 };
 use replace_file::Temp;
 
@@ -128,12 +128,13 @@ fn write_target<T: Tree>(
         Err(_) => return Err(RunFault::Tree),
     };
     let due = is_backup_due(turn, target, source, session);
+    let executable = mode_asked(&turn.task, side);
     if !moving {
         let removal = is_removal(turn, side, session);
-        return write_placed(target, due, removal, temp, tree);
+        return write_placed(target, due, removal, executable, temp, tree);
     }
     let source_due = is_backup_due(turn, source, target, session);
-    write_moved(source, target, due, source_due, temp, tree)
+    write_moved(source, target, due, source_due, executable, temp, tree)
 }
 
 /// Whether the source of a rename goes, which is there and isn't the target itself.

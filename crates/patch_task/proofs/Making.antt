@@ -1,5 +1,5 @@
 -- How parts of a run that make effects go on from one another.
-use Rattle.std.proofs.Common.{◌≡◌, ◌≢◌, ℕ, zero, List, [], ◌∷◌, ◌++◌, true, Option, Some, IsSome, Result, Ok, Err, OnOk, refl, sym, ◌∙◌, ap, subst, arith}
+use Rattle.std.proofs.Common.{◌≡◌, ◌≢◌, ℕ, zero, List, [], ◌∷◌, ◌++◌, true, false, Option, Some, IsSome, Result, Ok, Err, OnOk, refl, sym, ◌∙◌, ap, subst, arith}
 use Rattle.std.specs.Result.{IsErrAnd}
 use Rattle.std.proofs.lemmas.Option.{same_Some}
 use Rattle.std.proofs.lemmas.Result.{IfErr-weaker}
@@ -15,7 +15,9 @@ use Rattle.outside.proofs.Quiet.{lasting-only, works_none}
 use Rattle.outside.proofs.Effects.{made_none, made_more, made_since, made_tells, made_tells_all, since_longer, tells_longer}
 use Rattle.replace_file.specs.Puts.{Puts}
 use Rattle.replace_file.proofs.Putting.{puts_makes, bytes_same}
+use Rattle.file_patch.specs.declared.derived.Target.{Target}
 use Rattle.patch_task.specs.declared.fault.RunFault.{RunFault}
+use Rattle.patch_task.specs.Named.{IsNamed}
 use Rattle.patch_task.specs.Making.{IsMade, IsPart, Makes, GoesQuietly, KeepsAt, IsGone}
 use Rattle.patch_task.proofs.EffectLists.{after_all-append, after_all-at, leaves_after, tells_after, made_both}
 
@@ -76,7 +78,7 @@ makes_value x y one = record { ok = one.ok; err = tt }
 -- ---- no effect
 -- calls on a temporary alone
 module _ {u w : TreeView} (temp : List ℕ) (is : is_temp temp ≡ true) (works : WorksOn u w temp) where
-  works_made : HasMade u w []
+  pub works_made : HasMade u w []
   works_made = record {
     passes = works.passes;
     quiet = works.quiet;
@@ -198,3 +200,22 @@ goes_value x y goes = record { passes = goes.passes; cause = tt; quiet = goes.qu
 pub goes_fault : {R S : Type 0} {u w : TreeView} (e : RunFault) (r : Result S RunFault) → IsErrAnd r (λ d. d ≡ e) → GoesQuietly {R = R} u w (Err e) → GoesQuietly u w r
 goes_fault e (Ok x) is goes = absurd is
 goes_fault e (Err d) is goes = record { passes = goes.passes; cause = (is ∙ goes.cause.0, goes.cause.1); quiet = tt }
+
+-- ---- behind a call that leaves the tree untouched, since before it
+module _ {R : Type 0} {u v w : TreeView} (same : IsUntouched u v) where
+  pub goes_after : (r : Result R RunFault) → GoesQuietly v w r → GoesQuietly u w r
+  goes_after r goes = record {
+    passes = passes_both same.passes goes.passes;
+    cause = IfErr-weaker r _ _ (λ e is. (is.0, rises_then u v w same.passes is.1)) goes.cause;
+    quiet = goes.quiet;
+  }
+
+module _ {R : Type 0} {u v : TreeView} {t : Target} (named : IsNamed t) (same : IsUntouched u v) (quiet : IsQuiet u) (es : Files → List Effect) where
+  pub makes_after : {w : TreeView} (r : Result R RunFault) → Passes v w → Makes v w r t.temp es → Makes u w r t.temp es
+  makes_after r passes makes =
+      makes_both false r es same.passes passes (makes_works t.temp named.temps.own (untouched_works t.temp same quiet) false) makes
+      (λ f h told now made. ap es (same_Some f h (sym told ∙ sym same.told ∙ now)))
+
+  -- no effect, where the call failed
+  pub makes_none : (e : RunFault) → Makes {R = R} u v (Err e) t.temp es
+  makes_none e = works_fails t.temp named.temps.own (untouched_works t.temp same quiet) e es

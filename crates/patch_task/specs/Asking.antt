@@ -1,13 +1,16 @@
 -- What a file patch asks for by its git header, taken from a side, and what the options leave of that (git-diff(1), "Generating patch text with -p"; POSIX `patch`).
-use Rattle.std.specs.Prelude.{ℕ, Bool, true, false, not, ◌&&◌, ◌==◌, if◌then◌else◌, is_none}
+use Rattle.std.specs.Prelude.{ℕ, List, Bool, true, false, not, ◌&&◌, ◌==◌, if◌then◌else◌, is_none, is_some, Option, None}
+use Rattle.std.specs.Option.{option_and_then}
 use Rattle.hunk_core.specs.declared.Side.{Side}
+use Rattle.hunk_core.specs.declared.Side.TheVariants.{Forward, Reversed}
 use Rattle.hunk_core.specs.Turned.{other_side}
 use Rattle.header_record.specs.declared.Action.{Action}
 use Rattle.header_record.specs.declared.Action.TheVariants.{Plain, New, Deleted, Rename, Copy}
+use Rattle.header_record.specs.Modes.{is_executable}
 use Rattle.patch_options.specs.PlainJob.{PlainOptions}
 use Rattle.file_patch.specs.Actions.{is_moved}
 use Rattle.file_patch.specs.Absent.{is_said_absent}
-use Rattle.file_patch.specs.PlainPatch.{PlainPatch, hunk_count}
+use Rattle.file_patch.specs.PlainPatch.{PlainHeader, PlainPatch, hunk_count}
 
 -- the file is renamed, so that the name that it had goes
 abbrev pub is_rename : Action → Bool
@@ -46,3 +49,12 @@ written_place p k = if moves p then other_place k else k
 -- a file patch can take its file away, but not with `--posix`, nor with `-D`
 abbrev pub takes_files : PlainOptions → Bool
 takes_files o = not o.posix && is_none o.define
+
+-- what a git header says of the mode of the side that is taken as new
+abbrev pub mode_on : Side → PlainHeader → Option (List ℕ)
+mode_on Forward h = h.new_mode
+mode_on Reversed h = h.old_mode
+
+-- whether the file that is written may be executed, where a git header tells; an output that the options name isn't that file
+abbrev pub mode_asked : PlainOptions → Side → PlainPatch → Option Bool
+mode_asked o side p = if is_some o.output then None else option_and_then is_executable (mode_on side p.header)

@@ -10,7 +10,7 @@ mod placed;
 mod sources;
 mod task;
 
-pub use asking::{acts_deleted, acts_new, is_bare, renames, takes_files};
+pub use asking::{acts_deleted, acts_new, is_bare, mode_asked, renames, takes_files};
 pub use fault::RunFault;
 pub use moved::write_moved;
 pub use names::{chosen, shown, shown_reject, target_in, written, written_at};

@@ -20,6 +20,7 @@ pub fn write_moved<T: Tree>(
     target: &Target,
     due: bool,
     source_due: bool,
+    executable: Option<bool>,
     temp: Temp<'_>,
     tree: &mut T,
 ) -> Result<Made, RunFault>
@@ -43,7 +44,7 @@ pub fn write_moved<T: Tree>(
     ensures tidy { OnOk result (IsTidy (T.view tree.old) (T.view tree.new)) }
 {
     put_backup(target, due, tree)?;
-    move_in(source, target, source_due, temp, tree)?;
+    move_in(source, target, source_due, executable, temp, tree)?;
     Ok(with_backups(due, source_due))
 }
 
@@ -63,6 +64,7 @@ fn move_in<T: Tree>(
     source: &Target,
     target: &Target,
     source_due: bool,
+    executable: Option<bool>,
     temp: Temp<'_>,
     tree: &mut T,
 ) -> Result<(), RunFault>
@@ -80,13 +82,14 @@ fn move_in<T: Tree>(
     ensures gone { OnOk result (IsGone (T.view tree.new) target.now.temp) }
 {
     put_backup(source, source_due, tree)?;
-    supersede(source, target, temp, tree)
+    supersede(source, target, executable, temp, tree)
 }
 
 /// Puts the temporary at the target, and takes the source away.
 fn supersede<T: Tree>(
     source: &Target,
     target: &Target,
+    executable: Option<bool>,
     temp: Temp<'_>,
     tree: &mut T,
 ) -> Result<(), RunFault>
@@ -102,6 +105,6 @@ fn supersede<T: Tree>(
         → Makes (T.view tree.old) (T.view tree.new) result target.now.temp (λ f. target_effects false f target.now output ++ Effect.Remove source.now.name ∷ []) }
     ensures gone { OnOk result (IsGone (T.view tree.new) target.now.temp) }
 {
-    swap_in(temp, target, tree)?;
+    swap_in(temp, target, executable, tree)?;
     take_away(source, tree)
 }

@@ -1,9 +1,10 @@
 //! The effects on the target of a file patch: its backup, and then the target itself.
 
-ghost use Rattle.std.specs.Prelude.{◌≡◌, ◌≢◌, ◌≤◌, ◌++◌, ◌||◌, ◌+◌, if◌then◌else◌, [], ◌∷◌, ℕ, List, true, false, not, length, is_some, Some, IfOk, OnOk};
+ghost use Rattle.std.specs.Prelude.{◌≡◌, ◌≢◌, ◌≤◌, ◌++◌, ◌||◌, ◌+◌, if◌then◌else◌, [], ◌∷◌, ℕ, List, true, false, not, length, is_some, Some, IfOk, OnOk, OnErr};
 ghost use Rattle.std.specs.FinMap.{get};
 ghost use Rattle.outside.specs.Files.{Files};
-ghost use Rattle.outside.specs.Calls.{IsThere};
+ghost use Rattle.outside.specs.TreeView.{Rises};
+ghost use Rattle.outside.specs.Calls.{IsThere, IsUntouched};
 ghost use Rattle.outside.specs.Quiet.{IsQuiet, Effect, Holds};
 ghost use Rattle.patch_task.specs.Making.{Makes, GoesQuietly, KeepsAt, IsGone, IsTidy};
 ghost use Rattle.patch_task.specs.Named.{IsBeside, IsNamed};
@@ -11,7 +12,7 @@ ghost use Rattle.patch_task.specs.TargetEffects.{backup_effects, target_effects}
 
 use crate::fault::RunFault;
 use file_patch::Target;
-use outside::Tree;
+use outside::{Failed, Tree};
 use replace_file::{Temp, copy_backup, put_begun, remove_name};
 
 /// What was done to the tree.
@@ -23,11 +24,13 @@ pub struct Made {
     pub effects: u64,
 }
 
-/// Backs the target up, where that is due, and puts it or takes it away.
+/// Backs the target up, where that is due, and puts it, as a file that may be executed or not where that is asked, or takes it
+/// away.
 pub fn write_placed<T: Tree>(
     target: &Target,
     due: bool,
     removal: bool,
+    executable: Option<bool>,
     temp: Temp<'_>,
     tree: &mut T,
 ) -> Result<Made, RunFault>
@@ -47,7 +50,7 @@ pub fn write_placed<T: Tree>(
     ensures tidy { OnOk result (IsTidy (T.view tree.old) (T.view tree.new)) }
 {
     put_backup(target, due, tree)?;
-    let wrote = put_target(temp, target, removal, tree)?;
+    let wrote = put_target(temp, target, removal, executable, tree)?;
     Ok(with_backup(due, wrote))
 }
 
@@ -108,6 +111,7 @@ fn put_target<T: Tree>(
     temp: Temp<'_>,
     target: &Target,
     removal: bool,
+    executable: Option<bool>,
     tree: &mut T,
 ) -> Result<bool, RunFault>
     requires named { IsNamed target.now }
@@ -122,7 +126,7 @@ fn put_target<T: Tree>(
     if removal {
         erase(temp, target, tree)
     } else {
-        swap_in(temp, target, tree)
+        swap_in(temp, target, executable, tree)
     }
 }
 
@@ -205,8 +209,48 @@ pub fn take_away<T: Tree>(target: &Target, tree: &mut T) -> Result<(), RunFault>
     }
 }
 
+/// Puts the temporary at the target, as a file that may be executed or not, where that is asked.
+pub fn swap_in<T: Tree>(
+    mut temp: Temp<'_>,
+    target: &Target,
+    executable: Option<bool>,
+    tree: &mut T,
+) -> Result<bool, RunFault>
+    requires named { IsNamed target.now }
+    requires temp { temp.name.now ≡ target.now.temp }
+    requires quiet { IsQuiet (T.view tree.old) }
+    requires there { IsThere (T.view tree.old) target.now.temp }
+    ensures goes { GoesQuietly (T.view tree.old) (T.view tree.new) result }
+    ensures makes { (output : List ℕ) → Holds (T.view tree.old) target.now.temp output → Makes (T.view tree.old) (T.view tree.new) result target.now.temp (λ f. target_effects false f target.now output) }
+    ensures gone { OnOk result (IsGone (T.view tree.new) target.now.temp) }
+    ensures keeps { OnOk result ((q : List ℕ) → q ≢ target.now.name → q ≢ target.now.temp → KeepsAt (T.view tree.old) (T.view tree.new) q) }
+    ensures wrote { IfOk result (λ wrote. wrote ≡ true) }
+{
+    match set_mode(&mut temp, executable, tree) {
+        Ok(()) => put_filled(temp, target, tree),
+        Err(_) => Err(RunFault::Tree),
+    }
+}
+
+/// Says whether the temporary's file may be executed, where that is asked.
+fn set_mode<T: Tree>(
+    temp: &mut Temp<'_>,
+    executable: Option<bool>,
+    tree: &mut T,
+) -> Result<(), Failed>
+    requires { IsThere (T.view tree.old) temp.old.name.now }
+    ensures name { temp.new.name.now ≡ temp.old.name.now }
+    ensures untouched { IsUntouched (T.view tree.old) (T.view tree.new) }
+    ensures cause { OnErr result (Rises (T.view tree.old) (T.view tree.new)) }
+{
+    match executable {
+        Some(executable) => temp.set_executable(tree, executable),
+        None => Ok(()),
+    }
+}
+
 /// Puts the temporary at the target.
-pub fn swap_in<T: Tree>(temp: Temp<'_>, target: &Target, tree: &mut T) -> Result<bool, RunFault>
+fn put_filled<T: Tree>(temp: Temp<'_>, target: &Target, tree: &mut T) -> Result<bool, RunFault>
     requires named { IsNamed target.now }
     requires temp { temp.name.now ≡ target.now.temp }
     requires quiet { IsQuiet (T.view tree.old) }

@@ -1,12 +1,9 @@
-//! The lines behind a run over a patch text in which git gives files modes: none is carried out.
+//! The lines behind a run over a patch text in which git gives files modes that aren't carried out.
 
 use crate::lines::{Lines, Part, bare, is_feed};
 use crate::names::both_names;
 use file_patch::{last_component, shortened};
 use real_devices::Passed;
-
-/// The mode that a file gets without being given one.
-const USUAL: &[u8] = b"100644";
 
 /// The mode of a symbolic link.
 const LINK: &[u8] = b"120000";
@@ -21,7 +18,7 @@ pub struct Taking {
     pub is_reversed: bool,
 }
 
-/// A line for each file to which git gives a mode that isn't the usual one of a new file.
+/// A line for each file to which git gives such a mode.
 pub fn put_modes(lines: &mut Lines, tool: &str, taking: Taking, passed: &Passed) {
     let mut header = b"".as_slice();
     for line in passed.mode_lines().split(is_feed) {
@@ -45,18 +42,14 @@ fn put_mode(lines: &mut Lines, tool: &str, taking: Taking, header: &[u8], line: 
     }
 }
 
-/// The mode that the line gives the file, where that isn't the usual one of a new file.
+/// The mode that the line gives the file, if it gives one.
 fn mode_in(line: &[u8], is_reversed: bool) -> Option<&[u8]> {
     let (made, changed) = if is_reversed {
         (b"deleted file mode ".as_slice(), b"old mode ".as_slice())
     } else {
         (b"new file mode ".as_slice(), b"new mode ".as_slice())
     };
-    match line.strip_prefix(made) {
-        Some(mode) if mode == USUAL => None,
-        Some(mode) => Some(mode),
-        None => line.strip_prefix(changed),
-    }
+    line.strip_prefix(made).or(line.strip_prefix(changed))
 }
 
 /// The name that the file then has, as `-p` leaves it.

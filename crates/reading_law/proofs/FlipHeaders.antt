@@ -215,6 +215,8 @@ read_header form old new index a b = record {
   bare = false;
   from = None;
   to = None;
+  old_mode = None;
+  new_mode = None;
 }
 
 abbrev with_action : Form → Option (List ℕ) → Option (List ℕ) → Option (List ℕ) → Option (List ℕ) → Action → PlainHeader
@@ -232,6 +234,8 @@ with_action form old new index prereq action = record {
   bare = false;
   from = from_by action [];
   to = to_by action [];
+  old_mode = None;
+  new_mode = None;
 }
 
 plain-none : action_of [] ≡ actions.Plain

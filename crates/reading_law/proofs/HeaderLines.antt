@@ -1,6 +1,6 @@
 -- What a header says is what its lines say.
 use Rattle.std.proofs.Common.{◌≡◌, ◌+◌, ◌-◌, ◌<◌, ◌≤◌, ℕ, Bool, true, false, cond, not, eqb, List, [], ◌∷◌, ◌++◌, length, reverse, take, drop, slice_range, Option, None, Some, refl, sym, ap, subst, ◌∙◌, arith}
-use Rattle.std.specs.Prelude.{codes, option_map, unwrap_or}
+use Rattle.std.specs.Prelude.{codes, is_some, option_map, unwrap_or}
 use Rattle.std.specs.List.{AllByRecursion, position}
 use Rattle.std.proofs.Math.Seq.{drop-append_seam, take-length}
 use Rattle.std.proofs.lemmas.List.{length-append, length-drop, length-take, take_min, take-take, reverse-append}
@@ -12,7 +12,7 @@ use Rattle.hunk_core.proofs.TextLemmas.{after-takes}
 use Rattle.patch_header.specs.Content.{content}
 use Rattle.patch_header.specs.GitHeaders.{action_of}
 use Rattle.patch_header.specs.GitRows as git
-use Rattle.patch_header.specs.Region.{Row, tail_of, first_some, last_tail, old_tail, new_tail}
+use Rattle.patch_header.specs.Region.{Row, tail_of, first_some, last_tail, later, old_tail, new_tail}
 use Rattle.patch_header.specs.Values.{is_blank, is_white, first, blanks, unblanked, bare_length, length_or, name_length, index_length, word_length, span_at, bytes_of, name_in, index_in, word_in, stamp_in}
 use Rattle.header_record.specs.Quoted.{quoted_length}
 use Rattle.header_record.proofs.Quotes.{quoted-fits}
@@ -21,7 +21,7 @@ use Rattle.header_record.specs.declared.Action.TheVariants.{Plain, New, Deleted,
 use Rattle.patch_header.specs.declared.region.Tail.{Tail}
 use Rattle.patch_header.proofs.Rows.{content_short}
 use Rattle.file_patch.specs.PlainPatch.{bytes_in}
-use Rattle.reading_law.specs.Said.{behind, last_behind, bytes_before, index_named, name_said, word_said, stamp_said, whole_said, old_line, new_line, from_by, to_by}
+use Rattle.reading_law.specs.Said.{behind, last_behind, bytes_before, index_named, name_said, word_said, stamp_said, whole_said, old_line, new_line, from_by, to_by, old_mode_behind, new_mode_behind, old_mode_said, new_mode_said}
 use Rattle.reading_law.proofs.Places.{StandsAt, take-inside}
 
 -- ---- the bytes behind a beginning
@@ -57,16 +57,33 @@ tail-bytes text mark r s = by (after mark (content r.line)) refl
 
 -- ---- the last of each kind
 
--- what is made of the last row of a kind is what is made of its line
-module _ {X : Type 0} (text mark : List ℕ) (f : Option Tail → X) (g : Option (List ℕ) → X) (none : f None ≡ g None) (each : (r : Row) → StandsAt text r → f (tail_of mark r) ≡ g (behind mark r.line)) where
-  first-alike : (rs : List Row) → AllByRecursion (StandsAt text) rs → f (first_some (tail_of mark) rs) ≡ g (first_some (behind mark) (git.lines_of rs))
-  first-alike [] h = none
-  first-alike (r ∷ rs) h = by (after mark (content r.line)) refl (each r h.0) (first-alike rs h.1)
+-- what is made of a tail is what is made of some bytes
+module _ {X : Type 0} (f : Option Tail → X) (g : Option (List ℕ) → X) where
+  -- and both are there, or neither is
+  pub record AreAlike (t : Option Tail) (o : Option (List ℕ)) : Type 0 where
+    pub there : is_some t ≡ is_some o
+    pub made : f t ≡ g o
+
+  later-made : (s t : Option Tail) (o p : Option (List ℕ)) → AreAlike t p → f s ≡ g o → f (later s t) ≡ g (later o p)
+  later-made s None o None new last = last
+  later-made s (Some t) o (Some bytes) new last = new.made
+  later-made s None o (Some bytes) new last = absurd (let bad : false ≡ true = new.there in cc)
+  later-made s (Some t) o None new last = absurd (let bad : true ≡ false = new.there in cc)
+
+  later-alike : (s t : Option Tail) (o p : Option (List ℕ)) → AreAlike s o → AreAlike t p → AreAlike (later s t) (later o p)
+  later-alike s t o p last new = record { there = by s t o p last.there new.there; made = later-made s t o p new last.made }
     where
-      by : (o : Option (List ℕ)) → after mark (content r.line) ≡ o → f (tail_of mark r) ≡ g (after mark (content r.line)) → f (first_some (tail_of mark) rs) ≡ g (first_some (behind mark) (git.lines_of rs))
-          → f (first_some (tail_of mark) (r ∷ rs)) ≡ g (first_some (behind mark) (git.lines_of (r ∷ rs)))
-      by None e here more = rw e more
-      by (Some rest) e here more = rw e (rw e at here)
+      by : (s t : Option Tail) (o p : Option (List ℕ)) → is_some s ≡ is_some o → is_some t ≡ is_some p → is_some (later s t) ≡ is_some (later o p)
+      by s None o None e k = e
+      by s (Some t) o (Some bytes) e k = refl
+      by s None o (Some bytes) e k = absurd cc
+      by s (Some t) o None e k = absurd cc
+
+-- what is made of the last row of a kind is what is made of its line
+module _ {X : Type 0} (text : List ℕ) (tail : Row → Option Tail) (bytes : List ℕ → Option (List ℕ)) (f : Option Tail → X) (g : Option (List ℕ) → X) (none : f None ≡ g None) (each : (r : Row) → StandsAt text r → AreAlike f g (tail r) (bytes r.line)) where
+  first-alike : (rs : List Row) → AllByRecursion (StandsAt text) rs → f (first_some tail rs) ≡ g (first_some bytes (git.lines_of rs))
+  first-alike [] h = none
+  first-alike (r ∷ rs) h = later-made f g (first_some tail rs) (tail r) (first_some bytes (git.lines_of rs)) (bytes r.line) (each r h.0) (first-alike rs h.1)
 
 pub all-push : {A : Type 0} (P : A → Type 0) (xs : List A) (x : A) → AllByRecursion P xs → P x → AllByRecursion P (xs ++ x ∷ [])
 all-push P [] x h p = (p, tt)
@@ -88,11 +105,22 @@ lines-reverse (r ∷ rs) =
     ∙ ap (λ ls. ls ++ r.line ∷ []) (lines-reverse rs)
     ∙ sym (reverse-append (r.line ∷ []) (git.lines_of rs))
 
+last-made : {X : Type 0} (text : List ℕ) (tail : Row → Option Tail) (bytes : List ℕ → Option (List ℕ)) (f : Option Tail → X) (g : Option (List ℕ) → X) → f None ≡ g None → ((r : Row) → StandsAt text r → AreAlike f g (tail r) (bytes r.line))
+    → (rs : List Row) → AllByRecursion (StandsAt text) rs → f (first_some tail (reverse rs)) ≡ g (first_some bytes (reverse (git.lines_of rs)))
+last-made text tail bytes f g none each rs h =
+    first-alike text tail bytes f g none each (reverse rs) (all-reverse (StandsAt text) rs h)
+    ∙ ap (λ ls. g (first_some bytes ls)) (lines-reverse rs)
+
+tail-there : (mark : List ℕ) (r : Row) → is_some (tail_of mark r) ≡ is_some (behind mark r.line)
+tail-there mark r = by (after mark (content r.line)) refl
+  where
+    by : (o : Option (List ℕ)) → after mark (content r.line) ≡ o → is_some (tail_of mark r) ≡ is_some (behind mark r.line)
+    by None e = rw e refl
+    by (Some rest) e = rw e refl
+
 last-alike : {X : Type 0} (text mark : List ℕ) (f : Option Tail → X) (g : Option (List ℕ) → X) → f None ≡ g None → ((r : Row) → StandsAt text r → f (tail_of mark r) ≡ g (behind mark r.line))
     → (rs : List Row) → AllByRecursion (StandsAt text) rs → f (last_tail mark rs) ≡ g (last_behind mark (git.lines_of rs))
-last-alike text mark f g none each rs h =
-    first-alike text mark f g none each (reverse rs) (all-reverse (StandsAt text) rs h)
-    ∙ ap (λ ls. g (first_some (behind mark) ls)) (lines-reverse rs)
+last-alike text mark f g none each = last-made text (tail_of mark) (behind mark) f g none (λ r s. record { there = tail-there mark r; made = each r s })
 
 -- ---- names
 
@@ -252,3 +280,17 @@ from-said text rs all = from-by text (action_of (git.lines_of rs)) rs all
 
 pub to-said : (text : List ℕ) (rs : List Row) → AllByRecursion (StandsAt text) rs → bytes_in text (git.to_in rs) ≡ to_by (action_of (git.lines_of rs)) (git.lines_of rs)
 to-said text rs all = to-by text (action_of (git.lines_of rs)) rs all
+
+-- ---- modes
+
+mode-alike : (text last new : List ℕ) (r : Row) → StandsAt text r → AreAlike (λ o. bytes_in text (git.whole_in o)) whole_said (later (tail_of last r) (tail_of new r)) (later (behind last r.line) (behind new r.line))
+mode-alike text last new r s =
+    later-alike (λ o. bytes_in text (git.whole_in o)) whole_said (tail_of last r) (tail_of new r) (behind last r.line) (behind new r.line)
+    (record { there = tail-there last r; made = whole-bytes text last r s })
+    (record { there = tail-there new r; made = whole-bytes text new r s })
+
+pub old-mode-said : (text : List ℕ) (rs : List Row) → AllByRecursion (StandsAt text) rs → bytes_in text (git.whole_in (git.old_mode_in rs)) ≡ old_mode_said (git.lines_of rs)
+old-mode-said text = last-made text git.old_mode_of old_mode_behind (λ o. bytes_in text (git.whole_in o)) whole_said refl (mode-alike text (codes "old mode ") (codes "deleted file mode "))
+
+pub new-mode-said : (text : List ℕ) (rs : List Row) → AllByRecursion (StandsAt text) rs → bytes_in text (git.whole_in (git.new_mode_in rs)) ≡ new_mode_said (git.lines_of rs)
+new-mode-said text = last-made text git.new_mode_of new_mode_behind (λ o. bytes_in text (git.whole_in o)) whole_said refl (mode-alike text (codes "new mode ") (codes "new file mode "))

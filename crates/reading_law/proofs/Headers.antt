@@ -28,14 +28,14 @@ use Rattle.patch_header.proofs.ScanLemmas.{run-split}
 use Rattle.file_patch.specs.PlainPatch.{PlainHeader, bytes_in, header_of}
 use Rattle.reading_law.specs.Unnumbered.{unnumbered_header}
 use Rattle.reading_law.specs.Said as said
-use Rattle.reading_law.specs.Said.{behind, last_behind, name_said, word_said, stamp_said, old_line, new_line, from_by, to_by, index_named, led_lines, old_of, new_of, header_behind, bare_header, header_said}
+use Rattle.reading_law.specs.Said.{behind, last_behind, name_said, word_said, stamp_said, old_line, new_line, from_by, to_by, index_named, led_lines, old_of, new_of, header_behind, bare_header, header_said, old_mode_said, new_mode_said}
 use Rattle.reading_law.proofs.Places.{StandsAt, first-bytes, rows-stand, skip-line}
-use Rattle.reading_law.proofs.HeaderLines.{first-short, quoted-short, span-bytes, tail-bytes, index-said, word-said, old-name, new-name, old-stamp, new-stamp, from-said, to-said}
+use Rattle.reading_law.proofs.HeaderLines.{first-short, quoted-short, span-bytes, tail-bytes, index-said, word-said, old-name, new-name, old-stamp, new-stamp, from-said, to-said, old-mode-said, new-mode-said}
 use Rattle.reading_law.proofs.LedLines.{led-is, led-all}
 use Rattle.reading_law.proofs.Joining.{no-header, run-tail}
 
-abbrev plain : Form → Bool → Option (List ℕ) → Option (List ℕ) → Option (List ℕ) → Option (List ℕ) → Stamp → Stamp → Action → Option (List ℕ) → Option (List ℕ) → PlainHeader
-plain form bare old new index prereq old_stamp new_stamp action from to = record {
+abbrev plain : Form → Bool → Option (List ℕ) → Option (List ℕ) → Option (List ℕ) → Option (List ℕ) → Stamp → Stamp → Action → Option (List ℕ) → Option (List ℕ) → Option (List ℕ) → Option (List ℕ) → PlainHeader
+plain form bare old new index prereq old_stamp new_stamp action from to old_mode new_mode = record {
   form = form;
   opening = 0;
   names_line = 0;
@@ -49,11 +49,13 @@ plain form bare old new index prereq old_stamp new_stamp action from to = record
   bare = bare;
   from = from;
   to = to;
+  old_mode = old_mode;
+  new_mode = new_mode;
 }
 
-same-parts : (form : Form) (bare : Bool) (a a' b b' c c' d d' : Option (List ℕ)) (s s' t t' : Stamp) (x x' : Action) (f f' g g' : Option (List ℕ)) → a ≡ a' → b ≡ b' → c ≡ c' → d ≡ d' → s ≡ s' → t ≡ t' → x ≡ x' → f ≡ f' → g ≡ g'
-    → plain form bare a b c d s t x f g ≡ plain form bare a' b' c' d' s' t' x' f' g'
-same-parts form bare a a' b b' c c' d d' s s' t t' x x' f f' g g' ea eb ec ed es et ex ef eg = cc
+same-parts : (form : Form) (bare : Bool) (a a' b b' c c' d d' : Option (List ℕ)) (s s' t t' : Stamp) (x x' : Action) (f f' g g' m m' n n' : Option (List ℕ)) → a ≡ a' → b ≡ b' → c ≡ c' → d ≡ d' → s ≡ s' → t ≡ t' → x ≡ x' → f ≡ f' → g ≡ g' → m ≡ m' → n ≡ n'
+    → plain form bare a b c d s t x f g m n ≡ plain form bare a' b' c' d' s' t' x' f' g' m' n'
+same-parts form bare a a' b b' c c' d d' s s' t t' x x' f f' g g' m m' n n' ea eb ec ed es et ex ef eg em en = cc
 
 -- ---- an opening
 
@@ -73,7 +75,9 @@ opening-said text ways form place opening line at region all =
     let new_at : stamp_in text (new_tail form rs) ≡ stamp_said (new_line form region) = new-stamp text rs all form ∙ ap (λ l. stamp_said (new_line form l)) ls in
     let from : bytes_in text (git.from_in gs) ≡ from_by (action_of (led_lines ways form region)) (led_lines ways form region) = from-said text gs those ∙ ap (λ l. from_by (action_of l) l) led in
     let to : bytes_in text (git.to_in gs) ≡ to_by (action_of (led_lines ways form region)) (led_lines ways form region) = to-said text gs those ∙ ap (λ l. to_by (action_of l) l) led in
-    same-parts form false _ _ _ _ _ _ _ _ _ _ _ _ _ _ _ _ _ _ old new index prereq old_at new_at (ap action_of led) from to
+    let old_mode : bytes_in text (git.whole_in (git.old_mode_in gs)) ≡ old_mode_said (led_lines ways form region) = old-mode-said text gs those ∙ ap old_mode_said led in
+    let new_mode : bytes_in text (git.whole_in (git.new_mode_in gs)) ≡ new_mode_said (led_lines ways form region) = new-mode-said text gs those ∙ ap new_mode_said led in
+    same-parts form false _ _ _ _ _ _ _ _ _ _ _ _ _ _ _ _ _ _ _ _ _ _ old new index prereq old_at new_at (ap action_of led) from to old_mode new_mode
 
 -- ---- a bare git header
 
@@ -156,7 +160,11 @@ bare-said text place number line at region git_line more all e =
     ap (λ r. bytes_in text (git.from_in r)) extended ∙ from-said text es those ∙ ap (λ l. from_by (action_of l) l) lines_are in
     let to : bytes_in text (git.to_in (git.extended_rows number place (lines (drop place text)))) ≡ to_by (action_of (extended_run more)) (extended_run more) =
     ap (λ r. bytes_in text (git.to_in r)) extended ∙ to-said text es those ∙ ap (λ l. to_by (action_of l) l) lines_are in
-    same-parts Unified true _ _ _ _ _ _ _ _ _ _ _ _ _ _ _ _ _ _ old new index prereq refl refl action from to
+    let old_mode : bytes_in text (git.whole_in (git.old_mode_in (git.extended_rows number place (lines (drop place text))))) ≡ old_mode_said (extended_run more) =
+    ap (λ r. bytes_in text (git.whole_in (git.old_mode_in r))) extended ∙ old-mode-said text es those ∙ ap old_mode_said lines_are in
+    let new_mode : bytes_in text (git.whole_in (git.new_mode_in (git.extended_rows number place (lines (drop place text))))) ≡ new_mode_said (extended_run more) =
+    ap (λ r. bytes_in text (git.whole_in (git.new_mode_in r))) extended ∙ new-mode-said text es those ∙ ap new_mode_said lines_are in
+    same-parts Unified true _ _ _ _ _ _ _ _ _ _ _ _ _ _ _ _ _ _ _ _ _ _ old new index prereq refl refl action from to old_mode new_mode
 
 -- ---- both
 

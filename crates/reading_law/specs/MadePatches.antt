@@ -36,6 +36,8 @@ made_header i = record {
   bare = false;
   from = None;
   to = None;
+  old_mode = None;
+  new_mode = None;
 }
 
 -- the hunks over so many lines of a file

@@ -9,7 +9,7 @@ use Rattle.stamp.specs.declared.Stamp.TheVariants.{Unknown}
 use Rattle.patch_header.specs.Content.{content}
 use Rattle.patch_header.specs.GitHeaders.{action_of}
 use Rattle.patch_header.specs.GitRows.{lines_of, led_by, both_names}
-use Rattle.patch_header.specs.Region.{rows, first_some}
+use Rattle.patch_header.specs.Region.{rows, first_some, later}
 use Rattle.patch_header.specs.Values.{unblanked, name_length, index_length, word_length, behind_name}
 use Rattle.header_record.specs.declared.Action.{Action}
 use Rattle.header_record.specs.declared.Action.TheVariants.{Plain, New, Deleted, Rename, Copy}
@@ -48,7 +48,7 @@ abbrev pub stamp_said : Option (List ℕ) → Stamp
 stamp_said None = Unknown
 stamp_said (Some bytes) = stamp_of (behind_name (unblanked bytes))
 
--- a name up to the end of the line
+-- all up to the end of the line
 abbrev pub whole_said : Option (List ℕ) → Option (List ℕ)
 whole_said None = None
 whole_said (Some bytes) = bytes_before (length bytes) bytes
@@ -80,6 +80,20 @@ to_by New ls = None
 to_by Deleted ls = None
 to_by Rename ls = whole_said (last_behind (codes "rename to ") ls)
 to_by Copy ls = whole_said (last_behind (codes "copy to ") ls)
+
+-- what a line says of the old file's mode, and of the new file's
+abbrev pub old_mode_behind : List ℕ → Option (List ℕ)
+old_mode_behind line = later (behind (codes "old mode ") line) (behind (codes "deleted file mode ") line)
+
+abbrev pub new_mode_behind : List ℕ → Option (List ℕ)
+new_mode_behind line = later (behind (codes "new mode ") line) (behind (codes "new file mode ") line)
+
+-- what the last of extended lines says that speaks of it
+abbrev pub old_mode_said : List (List ℕ) → Option (List ℕ)
+old_mode_said ls = whole_said (first_some old_mode_behind (reverse ls))
+
+abbrev pub new_mode_said : List (List ℕ) → Option (List ℕ)
+new_mode_said ls = whole_said (first_some new_mode_behind (reverse ls))
 
 -- the extended lines of the git header that leads an opening of a form behind these lines
 abbrev pub led_lines : Ways → Form → List (List ℕ) → List (List ℕ)
@@ -118,6 +132,8 @@ header_behind form ls led = record {
   bare = false;
   from = from_by (action_of led) led;
   to = to_by (action_of led) led;
+  old_mode = old_mode_said led;
+  new_mode = new_mode_said led;
 }
 
 -- that of a bare git header behind these lines, with this git line and these extended ones
@@ -136,6 +152,8 @@ bare_header ls git extended = record {
   bare = true;
   from = from_by (action_of extended) extended;
   to = to_by (action_of extended) extended;
+  old_mode = old_mode_said extended;
+  new_mode = new_mode_said extended;
 }
 
 abbrev pub bare_said : List (List ℕ) → List (List ℕ) → Option PlainHeader

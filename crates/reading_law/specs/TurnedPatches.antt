@@ -27,6 +27,8 @@ turned_header h = record {
   bare = false;
   from = None;
   to = None;
+  old_mode = None;
+  new_mode = None;
 }
 
 -- a hunk as its form shows it: in the context form the dropped lines of each stretch come before the added ones, in the normal form all of them do

@@ -1,14 +1,14 @@
 //! What the lines in front of a file patch say, row by row; git headers are read in rows of `git`.
 
-use header_record::Header;
+use header_record::{Header, is_executable};
 use hunk_core::Form;
 use line_list::Span;
 use patch_header::{HeaderStep, next_header};
 use std::alloc::{AllocError, Global};
 
 /// The form that is asked for, `-` or `git`; a text; and the form of the opening, its line and the line of the names; the old and
-/// the new name, `Index:` and `Prereq:`; the stamps; and what git says of the file, whether the header is bare, and the names that
-/// the file goes from and to. Instants are those of `date -u +%s`.
+/// the new name, `Index:` and `Prereq:`; the stamps; what git says of the file, whether the header is bare, and the names that
+/// the file goes from and to; and the modes, where git tells one. Instants are those of `date -u +%s`.
 const ROWS: &[&str] = &[
     // A tab ends a name that holds a space.
     "-=diff --git a/my file b/my file\nindex 1f2..3e4 100644\n--- a/my file\t2002-02-21 23:30:39.942229878 -0800\n+++ b/my file\t2002-02-21 23:30:50 -0800\n@@ -1 +1 @@\n-a\n+b\n=Unified 5 3; [a/my file] [b/my file] [] []; Instant(1014363039) Instant(1014363050); Plain false [] []",
@@ -40,9 +40,9 @@ const ROWS: &[&str] = &[
     "Context=@@ -1 +1 @@\n-a\n+b\n=End",
     "-==End",
     // An empty file that is new has no hunk; its names stand in its git line.
-    "git=diff --git a/e b/e\nnew file mode 100644\nindex 0000000..e69de29\n=Unified 1 1; [a/e] [b/e] [] []; Unknown Unknown; New true [] []",
-    "git=diff --git f f\nnew file mode 100644\n=Unified 1 1; [f] [f] [] []; Unknown Unknown; New true [] []",
-    "git=diff --git a/x \"b/e f\" \ndeleted file mode 100644\n=Unified 1 1; [a/x] [\"b/e f\"] [] []; Unknown Unknown; Deleted true [] []",
+    "git=diff --git a/e b/e\nnew file mode 100644\nindex 0000000..e69de29\n=Unified 1 1; [a/e] [b/e] [] []; Unknown Unknown; New true [] []; [] [100644]",
+    "git=diff --git f f\nnew file mode 100644\n=Unified 1 1; [f] [f] [] []; Unknown Unknown; New true [] []; [] [100644]",
+    "git=diff --git a/x \"b/e f\" \ndeleted file mode 100644\n=Unified 1 1; [a/x] [\"b/e f\"] [] []; Unknown Unknown; Deleted true [] []; [100644] []",
     // Halves that differ behind their first slash are no names.
     "git=x\ndiff --git a/x b/y\nsimilarity index 100%\nrename from x\nrename to y\n=Unified 2 2; [] [] [] []; Unknown Unknown; Rename true [x] [y]",
     "git=diff --git a/x b/y\nsimilarity index 90%\nrename from x\nrename to y\n--- a/x\n+++ b/y\n@@ -1 +1 @@\n-a\n+b\n=Unified 7 5; [a/x] [b/y] [] []; Unknown Unknown; Rename false [x] [y]",
@@ -51,7 +51,9 @@ const ROWS: &[&str] = &[
     // The last of equal lines counts, and a name goes up to the end of its line.
     "git=diff --git a/f b/f\ncopy from a\ncopy from b \tc\ncopy to d\n=Unified 1 1; [a/f] [b/f] [] []; Unknown Unknown; Copy true [b \tc] [d]",
     // A file that is new isn't renamed.
-    "git=diff --git a/f b/f\nrename from a\nrename to b\ndeleted file mode 100644\nnew file mode 100644\n=Unified 1 1; [a/f] [b/f] [] []; Unknown Unknown; New true [] []",
+    "git=diff --git a/f b/f\nrename from a\nrename to b\ndeleted file mode 100644\nnew file mode 100644\n=Unified 1 1; [a/f] [b/f] [] []; Unknown Unknown; New true [] []; [100644] [100644]",
+    // The last line that tells a mode counts, in front of hunks too.
+    "git=diff --git a/f b/f\nold mode 100755\nnew mode \nnew file mode 120000\nold mode 100644\nnew mode 100711\n--- a/f\n+++ b/f\n@@ -1 +1 @@\n-a\n+b\n=Unified 9 7; [a/f] [b/f] [] []; Unknown Unknown; New false [] []; [100644] [100711]",
     // Without a hunk directly behind them the lines of both names lead nothing.
     "git=diff --git a/f b/f\nnew mode 100755\n--- a/f\n+++ b/f\n\n@@ -1 +1 @@\n=Unified 6 3; [a/f] [b/f] [] []; Unknown Unknown; Plain false [] []",
     // Modes alone are ordinary text.
@@ -101,6 +103,12 @@ fn git(alloc: Global, text: &str, header: Header) -> Result<String, AllocError> 
     format!(in alloc; " {:?} {} [{from}] [{to}]", header.action, header.bare)
 }
 
+fn modes(alloc: Global, text: &str, header: Header) -> Result<String, AllocError> {
+    let old = piece(text, header.old_mode);
+    let new = piece(text, header.new_mode);
+    format!(in alloc; " [{old}] [{new}]")
+}
+
 /// Whether a text was made, and is the wanted one.
 pub fn is_told(text: Result<String, AllocError>, wanted: &str) -> bool {
     match text {
@@ -118,6 +126,10 @@ fn says(alloc: Global, text: &str, step: HeaderStep, wanted: &str) -> bool {
                 && is_told(names(alloc, text, header), wanted.next().unwrap_or(""))
                 && is_told(stamps(alloc, header), wanted.next().unwrap_or(""))
                 && is_told(git(alloc, text, header), wanted.next().unwrap_or(""))
+                && is_told(
+                    modes(alloc, text, header),
+                    wanted.next().unwrap_or(" [] []"),
+                )
         }
         other => is_told(format!(in alloc; "{other:?}"), wanted),
     }
@@ -148,5 +160,38 @@ fn is_so(alloc: Global, row: &str) -> bool {
 fn headers_are_found(rt: HostRuntime) {
     for row in ROWS {
         assert!(rt; is_so(rt.alloc(), row), "{row}");
+    }
+}
+
+/// A mode, and whether its owner may execute the file.
+const MODES: &[&str] = &[
+    "100644=Some(false)",
+    "100755=Some(true)",
+    "100500=Some(true)",
+    "100611=Some(false)",
+    "120777=None",
+    "160000=None",
+    "040755=None",
+    "100758=None",
+    "10075=None",
+    "1007550=None",
+];
+
+fn is_mode(alloc: Global, row: &str) -> bool {
+    match row.split_once('=') {
+        Some((mode, wanted)) => {
+            is_told(
+                format!(in alloc; "{:?}", is_executable(mode.as_bytes())),
+                wanted,
+            )
+        }
+        None => false,
+    }
+}
+
+#[test]
+fn modes_are_read(rt: HostRuntime) {
+    for row in MODES {
+        assert!(rt; is_mode(rt.alloc(), row), "{row}");
     }
 }

@@ -9,7 +9,7 @@ use real_files::{OpenFiles, Path, Syncs, Trouble};
 use std::alloc::{AllocError, Global};
 use std::fs::File;
 use std::io;
-use std::rt::Files;
+use std::rt::{Files, Stdout};
 
 /// The longest file that is read for a line behind an answer.
 const LARGEST_TEXT: u64 = 1_048_576;
@@ -64,9 +64,10 @@ impl<'r, R: Files<File = File>> Disk<'r, R> {
         rt: &'r R,
         places: Places,
         temporary: &str,
+        standard: Stdout,
     ) -> Result<Disk<'r, R>, AllocError> {
         let (is_stack, syncs, follows) = (places.is_stack, places.syncs, places.follows);
-        let files = match OpenFiles::new(alloc, rt, is_stack, syncs, follows, temporary) {
+        let files = match OpenFiles::new(alloc, rt, is_stack, syncs, follows, temporary, standard) {
             Ok(files) => files,
             Err(error) => return Err(error),
         };
@@ -75,7 +76,7 @@ impl<'r, R: Files<File = File>> Disk<'r, R> {
             faults: Faults::new(alloc),
             seen: Seen {
                 places,
-                passed: Passed::new(alloc),
+                passed: Passed::new(alloc, is_stack),
                 ends: LineEnds::new(alloc),
             },
         })
@@ -264,6 +265,11 @@ impl<'r, R: Files<File = File>> Tree for Disk<'r, R> {
 
     fn append(&mut self, temp: &Name, piece: &[u8]) -> Result<(), Failed> {
         let done = self.files.append(Path::of(temp), piece);
+        self.faults.answer(temp.text(), done)
+    }
+
+    fn set_executable(&mut self, temp: &Name, executable: bool) -> Result<(), Failed> {
+        let done = self.files.set_executable(Path::of(temp), executable);
         self.faults.answer(temp.text(), done)
     }
 

@@ -17,13 +17,14 @@ pub struct Passed {
 }
 
 impl Passed {
-    pub fn new(alloc: Global) -> Passed {
+    /// A patch of a stack leaves more modes as they are.
+    pub fn new(alloc: Global, is_stack: bool) -> Passed {
         Passed {
             file: String::new(alloc),
             last: None,
             front: Vec::new(alloc),
             room: FRONT,
-            modes: Modes::new(alloc),
+            modes: Modes::new(alloc, is_stack),
         }
     }
 
@@ -47,8 +48,8 @@ impl Passed {
         &self.front
     }
 
-    /// The lines in which git headers say of a mode: of each header the first line, and behind it its lines `old mode` and
-    /// `new mode`, `new file mode`, or `deleted file mode`.
+    /// The lines in which git headers say of a mode that isn't carried out: of each header the first line, and behind it
+    /// `old mode` and `new mode`, `new file mode`, or `deleted file mode`.
     pub fn mode_lines(&self) -> &[u8] {
         &self.modes.lines
     }

@@ -29,7 +29,7 @@ impl<R: Read + Drop> Input<R> {
         Input {
             reader,
             is_patch,
-            passed: Passed::new(alloc),
+            passed: Passed::new(alloc, false),
             faults: Faults::new(alloc),
         }
     }

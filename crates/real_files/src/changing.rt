@@ -3,9 +3,9 @@
 use crate::files::OpenFiles;
 use crate::found::Found;
 use crate::fresh::{make_beside, rights_due};
-use crate::origins::usual;
+use crate::origins::{Grant, usual};
 use crate::paths::{Path, no_file, regular, replaceable, target_of};
-use crate::rights::{Rights, give};
+use crate::rights::give;
 use crate::spots::Place;
 use std::fs::File;
 use std::io;
@@ -38,8 +38,8 @@ impl<'r, R: Files<File = File>> OpenFiles<'r, R> {
         };
         let name = &mut temporary.real;
         let directories = &mut self.directories;
-        let rights = match rights_due(self.rt, directories, place, target, name, due) {
-            Ok(rights) => rights,
+        let granted = match rights_due(self.rt, directories, place, target, name, due) {
+            Ok(granted) => self.saves.grant(target.text, old, granted),
             Err(error) => return Err(error),
         };
         let file = match make_beside(self.rt, directories, place, target.last(), name, 0o600) {
@@ -47,7 +47,7 @@ impl<'r, R: Files<File = File>> OpenFiles<'r, R> {
             Err(error) => return Err(error),
         };
         self.saves.start(target.text);
-        self.begin(temp, number, file, rights)
+        self.begin(temp, number, file, granted)
     }
 
     /// Makes the temporary of an output that is written through.
@@ -59,11 +59,11 @@ impl<'r, R: Files<File = File>> OpenFiles<'r, R> {
         if let Some(temporary) = self.temporaries.get_mut(number) {
             temporary.real.clear();
         }
-        self.begin(temp, number, file, Rights::NONE)
+        self.begin(temp, number, file, Grant::NONE)
     }
 
     /// Keeps a temporary that was made.
-    fn begin(&mut self, temp: Path<'_>, number: usize, file: File, due: Rights) -> io::Result<()> {
+    fn begin(&mut self, temp: Path<'_>, number: usize, file: File, due: Grant) -> io::Result<()> {
         let done = self.temporaries.begin(number, temp, file, due);
         self.give_up(temp, done.is_err());
         done
@@ -89,6 +89,11 @@ impl<'r, R: Files<File = File>> OpenFiles<'r, R> {
         done
     }
 
+    /// Keeps whether the file may be executed, until it gets its rights.
+    pub fn set_executable(&mut self, temp: Path<'_>, executable: bool) -> io::Result<()> {
+        self.temporaries.set_executable(temp.text, executable)
+    }
+
     /// Writes what was gathered, gives the file its rights, and syncs it. Where that fails, the file is taken away.
     pub fn seal(&mut self, temp: Path<'_>) -> io::Result<()> {
         let done = self.sealed(temp);
@@ -108,7 +113,7 @@ impl<'r, R: Files<File = File>> OpenFiles<'r, R> {
             return Err(no_file());
         };
         if !temporary.is_nameless() {
-            give(file, temporary.due)?;
+            give(file, temporary.rights())?;
             if self.syncs.are_made() {
                 file.sync_all()?;
             }

@@ -328,7 +328,7 @@ impl Directories {
         }
     }
 
-    /// What the system gave to a new file in the directory before.
+    /// What the system gave to a new file in the directory before that is executed.
     pub fn usual_rights(&self, place: Place<'_>) -> Option<Rights> {
         match place.spot.held {
             Some(held) => match self.held.get(held) {

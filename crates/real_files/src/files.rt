@@ -27,7 +27,7 @@ use crate::writing::Writing;
 use std::alloc::{AllocError, Global};
 use std::fs::{File, OpenFile, OpenOptions};
 use std::io;
-use std::rt::Files;
+use std::rt::{Files, Stdout};
 
 #[derive(Drop)]
 pub struct OpenFiles<'r, R: Files<File = File>> {
@@ -49,7 +49,7 @@ pub struct OpenFiles<'r, R: Files<File = File>> {
 impl<'r, R: Files<File = File>> OpenFiles<'r, R> {
     /// Takes all the memory that calls on files want, but for many temporaries at once and for the saves of a stack. `follows` says
     /// that a file that is a link is the one behind it, and that what is written replaces the link. `temporary` is the directory for
-    /// temporary files.
+    /// temporary files, and `standard` the output where that is asked for.
     pub fn new(
         alloc: Global,
         rt: &'r R,
@@ -57,13 +57,14 @@ impl<'r, R: Files<File = File>> OpenFiles<'r, R> {
         syncs: Syncs,
         follows: bool,
         temporary: &str,
+        standard: Stdout,
     ) -> Result<OpenFiles<'r, R>, AllocError> {
         let reading = Reading::new(alloc)?;
         let writing = Writing::new(alloc)?;
         let temporaries = Temporaries::new(alloc)?;
         let looks = Looks::new(alloc)?;
         let missing = Missing::new(alloc)?;
-        let outlets = Outlets::new(alloc, temporary)?;
+        let outlets = Outlets::new(alloc, standard, temporary)?;
         let directories = Directories::new(alloc, syncs, follows)?;
         let emptied = Emptied::new(alloc)?;
         Ok(OpenFiles {

@@ -1,9 +1,9 @@
 //! New files under names that no file has, so that none is ever lost to them.
 
 use crate::directories::Directories;
-use crate::origins::Due;
+use crate::origins::{Due, Grant};
 use crate::paths::Path;
-use crate::rights::{Rights, rights_of};
+use crate::rights::rights_of;
 use crate::spots::Place;
 use crate::text::Text;
 use std::fs::{File, OpenOptions};
@@ -109,14 +109,14 @@ pub fn rights_due<R: Files<File = File>>(
     target: Path<'_>,
     name: &mut Text,
     due: Due,
-) -> io::Result<Rights> {
+) -> io::Result<Grant> {
     if let Due::Exactly(rights) = due {
-        return Ok(rights);
+        return Ok(Grant::as_old(rights));
     }
     if let Some(usual) = directories.usual_rights(place) {
-        return Ok(due.of_new(usual));
+        return Ok(Grant::as_new(due, usual));
     }
-    let file = match make_beside(rt, directories, place, target.last(), name, 0o666) {
+    let file = match make_beside(rt, directories, place, target.last(), name, 0o777) {
         Ok(file) => file,
         Err(error) => return Err(error),
     };
@@ -125,7 +125,7 @@ pub fn rights_due<R: Files<File = File>>(
     match usual {
         Ok(usual) => {
             directories.know_usual(place, usual);
-            Ok(due.of_new(usual))
+            Ok(Grant::as_new(due, usual))
         }
         Err(error) => Err(error),
     }

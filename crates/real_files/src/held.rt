@@ -22,7 +22,7 @@ pub struct Held {
     identity: Identity,
     /// What all directories on the way let others do with what stands in it.
     pub inside: Rights,
-    /// The rights that the system gives to a new file in it.
+    /// The rights that the system gives to a new file in it that is executed.
     pub usual: Option<Rights>,
     /// Whether a name in it has changed since it was synced last.
     is_changed: bool,

@@ -40,6 +40,62 @@ impl Due {
     }
 }
 
+/// The rights that a temporary gets, and what may become of them where a patch says whether it may be executed.
+#[derive(Clone, Copy)]
+pub struct Grant {
+    rights: Rights,
+    /// Those may execute it that these let, if they may read it. Without them what the patch says counts for nothing.
+    most: Option<Rights>,
+}
+
+impl Grant {
+    pub const NONE: Grant = Grant {
+        rights: Rights::NONE,
+        most: None,
+    };
+
+    /// The rights of a file that is there.
+    pub fn as_old(rights: Rights) -> Grant {
+        Grant {
+            rights,
+            most: Some(Rights::ALL),
+        }
+    }
+
+    /// What is due where the system gives `all` to a new file that is executed.
+    pub fn as_new(due: Due, all: Rights) -> Grant {
+        Grant {
+            rights: due.of_new(all.inert()),
+            most: Some(all),
+        }
+    }
+
+    /// The same for a file that is filled from one with these rights.
+    pub fn filled_from(self, rights: Rights) -> Grant {
+        match self.most {
+            Some(_) => Grant::as_old(rights),
+            None => Grant { rights, most: None },
+        }
+    }
+
+    /// The same whatever a patch says.
+    pub fn settled(self) -> Grant {
+        Grant {
+            rights: self.rights,
+            most: None,
+        }
+    }
+
+    /// The rights that it gets, where a patch says so.
+    pub fn rights(self, executable: Option<bool>) -> Rights {
+        match (executable, self.most) {
+            (Some(true), Some(most)) => self.rights.executable(most),
+            (Some(false), Some(_)) => self.rights.inert(),
+            _ => self.rights,
+        }
+    }
+}
+
 /// The rights of a temporary that is started now, to stand where `old` stands, if anything does. What was filled from a file's
 /// bytes gets its rights, and so does a file's own successor; anything else, as rejects, no more than them.
 pub fn usual(origin: Option<Origin>, old: Found) -> Due {

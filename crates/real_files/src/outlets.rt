@@ -8,7 +8,7 @@ use std::alloc::{AllocError, Global};
 use std::fs::{File, OpenOptions};
 use std::io;
 use std::io::Write;
-use std::rt::Files;
+use std::rt::{Files, Stdout};
 
 /// The output and the reject file.
 const MOST: usize = 2;
@@ -16,12 +16,10 @@ const MOST: usize = 2;
 /// How many bytes go through at once.
 const PIECE: usize = 4_096;
 
-const STANDARD_OUTPUT: &str = "/dev/stdout";
-
 #[derive(Drop)]
 struct Outlet {
     name: Text,
-    is_standard: bool,
+    standard: Option<Stdout>,
     /// It stays open once something was put there, so that who reads a pipe gets all of it.
     device: Option<File>,
     /// How many bytes went through. What is put there next goes on from them.
@@ -34,16 +32,17 @@ pub struct Outlets {
     count: usize,
     /// Where temporaries for them are made.
     directory: Text,
+    standard: Stdout,
 }
 
 impl Outlets {
-    pub fn new(alloc: Global, directory: &str) -> Result<Outlets, AllocError> {
+    pub fn new(alloc: Global, standard: Stdout, directory: &str) -> Result<Outlets, AllocError> {
         let mut all = Vec::with_capacity(alloc, MOST)?;
         for _ in 0..MOST {
             let name = Text::new(alloc, LONGEST_PATH)?;
             all.push(Outlet {
                 name,
-                is_standard: false,
+                standard: None,
                 device: None,
                 written: 0,
             })?;
@@ -56,6 +55,7 @@ impl Outlets {
             all,
             count: 0,
             directory: kept,
+            standard,
         })
     }
 
@@ -63,7 +63,11 @@ impl Outlets {
     pub fn note(&mut self, name: &str, is_standard: bool) -> io::Result<()> {
         if let Some(outlet) = self.all.get_mut(self.count) {
             outlet.name.set(name)?;
-            outlet.is_standard = is_standard;
+            outlet.standard = if is_standard {
+                Some(self.standard)
+            } else {
+                None
+            };
             self.count = self.count.saturating_add(1);
         }
         Ok(())
@@ -88,7 +92,8 @@ impl Outlets {
     /// Whether a name stands for standard output.
     pub fn is_standard(&self, name: &str) -> bool {
         match self.find(name) {
-            Some(number) => matches!(self.all.get(number), Some(outlet) if outlet.is_standard),
+            Some(number) =>
+                matches!(self.all.get(number), Some(outlet) if outlet.standard.is_some()),
             None => false,
         }
     }
@@ -117,35 +122,38 @@ impl Outlets {
 
 impl Outlet {
     fn open<R: Files<File = File>>(&self, rt: &R) -> io::Result<File> {
-        let path = if self.is_standard {
-            STANDARD_OUTPUT
-        } else {
-            self.name.as_str()
-        };
         let mut how = OpenOptions::new();
         how.append(true);
-        how.open(rt, path)
+        how.open(rt, self.name.as_str())
     }
 
     fn write<R: Files<File = File>>(&mut self, rt: &R, whole: &File) -> io::Result<()> {
+        if let Some(mut standard) = self.standard {
+            return write_behind(&mut standard, whole, &mut self.written);
+        }
         if self.device.is_none() {
             self.device = match self.open(rt) {
                 Ok(device) => Some(device),
                 Err(error) => return Err(error),
             };
         }
-        let Some(device) = &mut self.device else {
-            return Err(no_file());
-        };
-        let mut piece = [0u8; PIECE];
-        for _ in 0..u64::MAX {
-            let count = read_whole(whole, self.written, &mut piece)?;
-            if count == 0 {
-                break;
-            }
-            device.write_all(piece.get(..count).unwrap_or(&[]))?;
-            self.written = self.written.saturating_add(count as u64);
+        match &mut self.device {
+            Some(device) => write_behind(device, whole, &mut self.written),
+            None => Err(no_file()),
         }
-        Ok(())
     }
+}
+
+/// Writes all of a file behind what was written of it before.
+fn write_behind<W: Write>(device: &mut W, whole: &File, written: &mut u64) -> io::Result<()> {
+    let mut piece = [0u8; PIECE];
+    for _ in 0..u64::MAX {
+        let count = read_whole(whole, *written, &mut piece)?;
+        if count == 0 {
+            break;
+        }
+        device.write_all(piece.get(..count).unwrap_or(&[]))?;
+        *written = written.saturating_add(count as u64);
+    }
+    Ok(())
 }

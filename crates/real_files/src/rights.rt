@@ -8,6 +8,8 @@ use std::os::unix::fs::{MetadataExt, PermissionsExt, fchown};
 /// whoever runs the file are never carried.
 const PERMISSION_BITS: u32 = 0o777;
 
+const EXECUTE_BITS: u32 = 0o111;
+
 /// The owner, the group and the permission bits of a file.
 #[derive(Clone, Copy)]
 pub struct Rights {
@@ -48,6 +50,25 @@ impl Rights {
         }
     }
 
+    /// The same where nobody may execute the file.
+    pub fn inert(self) -> Rights {
+        Rights {
+            owner: self.owner,
+            group: self.group,
+            bits: self.bits & !EXECUTE_BITS,
+        }
+    }
+
+    /// The same where those may execute it who may read it, as far as `most` lets them.
+    pub fn executable(self, most: Rights) -> Rights {
+        let readers = (self.bits / 4) & EXECUTE_BITS;
+        Rights {
+            owner: self.owner,
+            group: self.group,
+            bits: self.bits | (readers & most.bits),
+        }
+    }
+
     /// What both files let others do, where one is given the group of the second.
     pub fn met(self, other: Rights) -> Rights {
         Rights {
@@ -71,7 +92,7 @@ impl Rights {
         Rights {
             owner: self.owner,
             group: self.group,
-            bits: (self.bits & 0o111) * 7,
+            bits: (self.bits & EXECUTE_BITS) * 7,
         }
     }
 }

@@ -5,7 +5,7 @@
 //! no more than the save's.
 
 use crate::found::Found;
-use crate::origins::{Due, own};
+use crate::origins::{Due, Grant, own};
 use crate::rights::Rights;
 use std::alloc::Global;
 use std::io;
@@ -115,6 +115,16 @@ impl Saves {
             // A patch makes it: no more than what was taken away had, since its bytes may come over this one.
             (None, Some(gone)) => within(other, gone),
             (None, None) => other,
+        }
+    }
+
+    /// What a patch may make of rights where `old` stands, if anything does. In a stack a file that is there, or was, keeps its
+    /// own, since no save tells them when the patch is taken off again.
+    pub fn grant(&self, name: &str, old: Found, granted: Grant) -> Grant {
+        if self.is_stack && (old.is_file || self.rights_gone(name).is_some()) {
+            granted.settled()
+        } else {
+            granted
         }
     }
 

@@ -1,8 +1,8 @@
 //! The temporaries, each with the name that the system knows it by, and the file that the next one is filled from.
 
 use crate::found::Found;
-use crate::origins::Origin;
-use crate::paths::{Path, target_of};
+use crate::origins::{Grant, Origin};
+use crate::paths::{Path, no_file, target_of};
 use crate::rights::Rights;
 use crate::text::{LONGEST_PATH, Text};
 use std::alloc::{AllocError, Global};
@@ -32,7 +32,9 @@ pub struct Temporary {
     pub real: Text,
     pub file: Option<File>,
     /// The rights that it is to get.
-    pub due: Rights,
+    due: Grant,
+    /// Whether it may be executed, where that was said.
+    executable: Option<bool>,
     stage: Stage,
     /// When it was started.
     started: u64,
@@ -47,7 +49,8 @@ impl Temporary {
             given: 0,
             real,
             file: None,
-            due: Rights::NONE,
+            due: Grant::NONE,
+            executable: None,
             stage: Stage::Gone,
             started: 0,
         })
@@ -59,6 +62,11 @@ impl Temporary {
             text: self.name.as_str(),
             given: self.given,
         }
+    }
+
+    /// The rights that it gets.
+    pub fn rights(&self) -> Rights {
+        self.due.rights(self.executable)
     }
 
     pub fn is_there(&self) -> bool {
@@ -153,7 +161,7 @@ impl Temporaries {
         number: usize,
         temp: Path<'_>,
         file: File,
-        due: Rights,
+        due: Grant,
     ) -> io::Result<()> {
         if let Some(origin) = &mut self.origin {
             origin.was_read = false;
@@ -164,6 +172,7 @@ impl Temporaries {
             temporary.given = temp.given;
             temporary.file = Some(file);
             temporary.due = due;
+            temporary.executable = None;
             temporary.stage = Stage::Filled;
             temporary.started = self.time;
         }
@@ -206,13 +215,24 @@ impl Temporaries {
             Some(number) => {
                 if let Some(last) = self.all.get_mut(number) {
                     if found.is_file {
-                        last.due = found.rights;
+                        last.due = last.due.filled_from(found.rights);
                     }
                 }
             }
             None if found.is_file => self.origin = Some(Origin { found, was_read }),
             None => self.origin = None,
         }
+    }
+
+    /// Keeps whether the one that goes by this name may be executed.
+    pub fn set_executable(&mut self, name: &str, executable: bool) -> io::Result<()> {
+        let Some(number) = self.find(name) else {
+            return Err(no_file());
+        };
+        if let Some(temporary) = self.all.get_mut(number) {
+            temporary.executable = Some(executable);
+        }
+        Ok(())
     }
 
     /// Forgets one, and closes it.

@@ -19,7 +19,7 @@ pub fn is_told(text: Result<String, AllocError>, wanted: &str) -> bool {
 }
 
 const RENAMED: &str =
-    "Ok([FilePatch { header: Header { form: Unified, at: 0, opening: 1, names_line: 1, old_name: None, new_name: None, index: None, prereq: None, old_stamp: Unknown, new_stamp: Unknown, action: Rename, bare: true, from: Some(Span { start: 53, end: 54 }), to: Some(Span { start: 65, end: 66 }) }, span: Span { start: 0, end: 67 }, hunk_spans: [], change: Hunks([]), old_absent: false, new_absent: false, targets: [], first_verdict: 0 }])";
+    "Ok([FilePatch { header: Header { form: Unified, at: 0, opening: 1, names_line: 1, old_name: None, new_name: None, index: None, prereq: None, old_stamp: Unknown, new_stamp: Unknown, action: Rename, bare: true, from: Some(Span { start: 53, end: 54 }), to: Some(Span { start: 65, end: 66 }), old_mode: None, new_mode: None }, span: Span { start: 0, end: 67 }, hunk_spans: [], change: Hunks([]), old_absent: false, new_absent: false, targets: [], first_verdict: 0 }])";
 
 fn renamed_told(alloc: Global) -> Result<String, AllocError> {
     let ways = Ways {

@@ -2,7 +2,7 @@ use Rattle.std.proofs.Common.{refl}
 use Rattle.patch_header.proofs.bare.bare_header.Goals as goal
 
 pub returns-clause-pieces : goal.returns-clause-pieces
-returns-clause-pieces c = record { old_name = c.old_half.ensures.piece; new_name = c.new_half.ensures.piece; index = c.index_in.ensures.piece; prereq = c.word_in.ensures.piece; from = c.from_in.ensures.piece; to = c.to_in.ensures.piece }
+returns-clause-pieces c = record { old_name = c.old_half.ensures.piece; new_name = c.new_half.ensures.piece; index = c.index_in.ensures.piece; prereq = c.word_in.ensures.piece; from = c.from_in.ensures.piece; to = c.to_in.ensures.piece; old_mode = c.whole_in.ensures.piece; new_mode = c.whole_in-2.ensures.piece }
 
 pub to_in-requires-clause-lies : goal.to_in-requires-clause-lies
 to_in-requires-clause-lies c = c.requires.lines
@@ -48,3 +48,15 @@ returns-clause-form c = refl
 
 pub returns-clause-at : goal.returns-clause-at
 returns-clause-at c = refl
+
+pub whole_in-requires-clause-lies : goal.whole_in-requires-clause-lies
+whole_in-requires-clause-lies c = c.requires.lines.old_mode
+
+pub whole_in-requires-2-clause-lies : goal.whole_in-requires-2-clause-lies
+whole_in-requires-2-clause-lies c = c.requires.lines.new_mode
+
+pub whole_in-requires-clause-short : goal.whole_in-requires-clause-short
+whole_in-requires-clause-short c = c.requires.short
+
+pub whole_in-requires-2-clause-short : goal.whole_in-requires-2-clause-short
+whole_in-requires-2-clause-short c = c.requires.short

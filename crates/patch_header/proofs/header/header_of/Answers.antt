@@ -26,7 +26,7 @@ pub to_in-requires-clause-lies : goal.to_in-requires-clause-lies
 to_in-requires-clause-lies c = c.requires.led
 
 pub returns-clause-pieces : goal.returns-clause-pieces
-returns-clause-pieces c = record { old_name = c.name_in-old_name.ensures.piece; new_name = c.name_in.ensures.piece; index = c.index_in.ensures.piece; prereq = c.word_in.ensures.piece; from = c.from_in.ensures.piece; to = c.to_in.ensures.piece }
+returns-clause-pieces c = record { old_name = c.name_in-old_name.ensures.piece; new_name = c.name_in.ensures.piece; index = c.index_in.ensures.piece; prereq = c.word_in.ensures.piece; from = c.from_in.ensures.piece; to = c.to_in.ensures.piece; old_mode = c.whole_in.ensures.piece; new_mode = c.whole_in-2.ensures.piece }
 
 pub to_in-requires-clause-short : goal.to_in-requires-clause-short
 to_in-requires-clause-short c = c.requires.short
@@ -54,3 +54,15 @@ returns-clause-form c = refl
 
 pub returns-clause-at : goal.returns-clause-at
 returns-clause-at c = refl
+
+pub whole_in-requires-clause-lies : goal.whole_in-requires-clause-lies
+whole_in-requires-clause-lies c = c.requires.led.old_mode
+
+pub whole_in-requires-2-clause-lies : goal.whole_in-requires-2-clause-lies
+whole_in-requires-2-clause-lies c = c.requires.led.new_mode
+
+pub whole_in-requires-clause-short : goal.whole_in-requires-clause-short
+whole_in-requires-clause-short c = c.requires.short
+
+pub whole_in-requires-2-clause-short : goal.whole_in-requires-2-clause-short
+whole_in-requires-2-clause-short c = c.requires.short

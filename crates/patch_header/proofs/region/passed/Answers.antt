@@ -1,6 +1,6 @@
 use Rattle.std.proofs.Common.{slice_range, ◌∙◌, ap}
-use Rattle.patch_header.specs.Region.{row, LiesIn}
-use Rattle.patch_header.proofs.SeenLemmas.{later-lies, seen-push, later, seen-made}
+use Rattle.patch_header.specs.Region.{row, later, LiesIn}
+use Rattle.patch_header.proofs.SeenLemmas.{later-lies, seen-push, seen-made}
 use Rattle.patch_header.proofs.region.passed.Goals as goal
 
 pub returns-clause-lies : goal.returns-clause-lies

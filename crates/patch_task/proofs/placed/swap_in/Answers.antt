@@ -1,46 +1,43 @@
-use Rattle.std.proofs.Common.{◌∷◌, ℕ, [], List, Option, Ok, Err, true, unwrap_or, sym, ap, refl}
-use Rattle.outside.specs.Files.{Files, bytes_at}
-use Rattle.outside.specs.Quiet.Effect.{Put}
-use Rattle.patch_task.proofs.Making.{makes_is, puts_made, puts_part, puts_named, put_gone, put_keeps}
+use Rattle.std.proofs.Common.{ℕ, List, false, subst, sym, refl, ◌∙◌}
+use Rattle.std.proofs.lemmas.Result.{on_ok_weaker}
+use Rattle.outside.specs.Calls.{IsThere}
+use Rattle.patch_task.specs.declared.fault.RunFault.TheVariants.{Tree}
+use Rattle.patch_task.specs.TargetEffects.{target_effects}
+use Rattle.patch_task.proofs.Making.{untouched_works, goes_after, makes_after, makes_none}
 use Rattle.patch_task.proofs.placed.swap_in.Goals as goal
 
+pub set_mode-requires : goal.set_mode-requires
+set_mode-requires g c = subst (λ (n : List ℕ). IsThere (g.T.Tree.view c.args.tree.now) n) (sym c.requires.temp) c.requires.there
+
+pub put_filled-requires-clause-named : goal.put_filled-requires-clause-named
+put_filled-requires-clause-named g c = c.requires.named
+
+pub put_filled-requires-clause-temp : goal.put_filled-requires-clause-temp
+put_filled-requires-clause-temp g c = c.set_mode.ensures.name ∙ c.requires.temp
+
+pub put_filled-requires-clause-quiet : goal.put_filled-requires-clause-quiet
+put_filled-requires-clause-quiet g c = (untouched_works c.args.target.now.temp c.set_mode.ensures.untouched c.requires.quiet).quiet
+
+pub put_filled-requires-clause-there : goal.put_filled-requires-clause-there
+put_filled-requires-clause-there g c f now = c.requires.there f (sym c.set_mode.ensures.untouched.told ∙ now)
+
 pub returns-in-Ok : goal.returns-in-Ok
-returns-in-Ok g c = record {
-  makes = λ output holds.
-      let u = g.T.Tree.view c.args.tree.now in
-      let w = g.T.Tree.view c.put_begun.new.tree in
-      let target = c.args.target.now in
-      let bytes : Files → List ℕ = λ f. bytes_at f target.temp in
-      let puts = puts_named target.name c.requires.temp c.in-Ok.ensures in
-      makes_is (Ok true) _ (puts_made target.temp target.name bytes c.requires.named.temps.own c.requires.quiet c.in-Ok.field-0 true target.temp c.requires.named.temp puts)
-      (λ f told. ap (λ (o : Option (List ℕ)). Put target.name (unwrap_or o []) ∷ []) (sym (holds f told)));
-  gone = (
-      let u = g.T.Tree.view c.args.tree.now in
-      let w = g.T.Tree.view c.put_begun.new.tree in
-      let target = c.args.target.now in
-      let puts = puts_named target.name c.requires.temp c.in-Ok.ensures in
-      put_gone u w target.temp target.name (λ f. bytes_at f target.temp) puts.ok puts.run.passes);
-  keeps = (
-      let u = g.T.Tree.view c.args.tree.now in
-      let w = g.T.Tree.view c.put_begun.new.tree in
-      let target = c.args.target.now in
-      let puts = puts_named target.name c.requires.temp c.in-Ok.ensures in
-      put_keeps u w target.temp target.name (λ f. bytes_at f target.temp) puts.ok);
-  goes = record { passes = c.in-Ok.ensures.run.passes; cause = tt; quiet = c.in-Ok.ensures.quiet };
-  wrote = refl;
-}
+returns-in-Ok g c =
+    let same = c.set_mode.ensures.untouched in
+    let put = c.put_filled.ensures in
+    record {
+      makes = λ output holds.
+          makes_after c.requires.named same c.requires.quiet (λ f. target_effects false f c.args.target.now output) c.put_filled.result put.goes.passes (put.makes output (λ f now. holds f (sym same.told ∙ now)));
+      goes = goes_after same c.put_filled.result put.goes;
+      gone = put.gone;
+      keeps = on_ok_weaker c.put_filled.result (λ keeps q ne net f g told now. keeps q ne net f g (same.told ∙ told) now) put.keeps;
+      wrote = put.wrote;
+    }
 
 pub returns-in-Err : goal.returns-in-Err
 returns-in-Err g c = record {
-  makes = λ output holds.
-      let u = g.T.Tree.view c.args.tree.now in
-      let w = g.T.Tree.view c.put_begun.new.tree in
-      let target = c.args.target.now in
-      let bytes : Files → List ℕ = λ f. bytes_at f target.temp in
-      let puts = puts_named target.name c.requires.temp c.in-Err.ensures in
-      makes_is (Err _) _ (puts_part target.temp target.name bytes c.requires.named.temps.own c.requires.quiet c.in-Err.field-0 _ target.temp puts)
-      (λ f told. ap (λ (o : Option (List ℕ)). Put target.name (unwrap_or o []) ∷ []) (sym (holds f told)));
-  goes = record { passes = c.in-Err.ensures.run.passes; cause = (refl, c.in-Err.ensures.run.cause refl); quiet = tt };
+  makes = λ output holds. makes_none c.requires.named c.set_mode.ensures.untouched c.requires.quiet (λ f. target_effects false f c.args.target.now output) Tree;
+  goes = record { passes = c.set_mode.ensures.untouched.passes; cause = (refl, c.in-Err.ensures.cause); quiet = tt };
   gone = tt;
   keeps = tt;
   wrote = tt;
