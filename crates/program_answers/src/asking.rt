@@ -1,6 +1,7 @@
 //! What the words ask for.
 
 use crate::carrying::run_over;
+use crate::closed::Closed;
 use crate::outputs::Outputs;
 use crate::refusing::refused;
 use crate::runner::Runner;
@@ -16,10 +17,13 @@ use tool_words::usage;
 /// Tells what was asked, or has the words carried out, and answers the exit status. Where memory runs out before either begins,
 /// nothing is done.
 pub fn answer<X: Runner>(rt: &HostRuntime, runner: &X) -> u8 {
-    match words_of(rt) {
+    let closed = Closed::new(rt);
+    let status = match words_of(rt) {
         Ok(words) => answer_to(rt, runner, &words),
         Err(error) => refused(rt, called_tool(rt), error.kind()),
-    }
+    };
+    closed.end();
+    status
 }
 
 fn answer_to<X: Runner>(rt: &HostRuntime, runner: &X, words: &[String]) -> u8 {

@@ -45,7 +45,7 @@ pub fn run_over<X: Runner>(
     if places.is_standard {
         outputs.say_on_error(rt)?;
     }
-    let mut tree = Disk::new(alloc, rt, places, directory_in(&named))?;
+    let mut tree = Disk::new(alloc, rt, places, directory_in(&named), rt.stdout())?;
     let pages = Pages::new(alloc, rt, directory_in(&named))?;
     let mut input = Input::new(alloc, rt.stdin(), is_patch);
     let (why, pages) = runner.run(

@@ -4,6 +4,7 @@
 
 mod asking;
 mod carrying;
+mod closed;
 mod helping;
 mod outputs;
 mod refusing;

@@ -55,11 +55,16 @@ fn places_in(alloc: Global, options: &Options) -> Places {
         file: named(alloc, options, &options.file),
         output: named(alloc, options, &options.output),
         rejects: named(alloc, options, &options.reject),
-        is_standard: matches!(&options.output, Some(output) if output.text() == "-"),
+        is_standard: matches!(&options.output, Some(output) if is_standard(output.text())),
         follows: options.follow_links,
         syncs: syncs_of(options.sync),
         is_filter: false,
     }
+}
+
+/// Whether a name stands for standard output.
+fn is_standard(name: &str) -> bool {
+    matches!(name, "-" | "/dev/stdout" | "/dev/fd/1")
 }
 
 /// Whether files and directories are synced.
