@@ -40,11 +40,27 @@ def without_null_names(case, out):
 
 @change(LISTED, 'strip-match-alone')
 def with_last_components(case, out):
-    """The last component of each name alone, where -p stands without a pattern."""
+    """The last component of each name alone, where -p stands with an empty file of patterns alone."""
     words, none = ' '.join(case.runs[0].words), b'patterns' in case.tree and not case.tree[b'patterns'].data
-    if not re.search(r'(^| )(-p|--strip-match)', words) or re.search(r'(^| )(-[ixIX]|--include|--exclude|--strip=)', words) and not none:
+    if not none or not re.search(r'(^| )(-p|--strip-match)', words):
         return out
     return rewritten(out, lambda number, sign, name: (number, sign, name.split(b'/')[-1]))
+
+
+@change(LISTED, 'patchutils-slips')
+def with_one_sign(case, out):
+    """The one sign that patchutils has for what grepdiff finds."""
+    if case.runs[0].tool != 'grepdiff' or not re.search(r'(^| )-s', ' '.join(case.runs[0].words)):
+        return out
+    return rewritten(out, lambda number, sign, name: (number, sign and b'!', name))
+
+
+@change(LISTED, 'hunks-told-twice')
+def without_second_verbose(case, out):
+    """No numbers of files, and nothing behind the numbers of hunks, where -v stands twice."""
+    if not re.search(r'(^| )-\w*v\w*v', ' '.join(case.runs[0].words)):
+        return out
+    return re.sub(rb'(?m)^(\t\d+\tHunk #\d+)\t.*$', rb'\1', re.sub(rb'(?m)^(\d+\t)File #\d+ *\t', rb'\1', out))
 
 
 @change(LISTED, 'counted-from-diff')

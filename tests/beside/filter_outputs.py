@@ -246,10 +246,10 @@ def without_blank_lines(case, out):
     return without_ranges(case, out, lambda told, _: any(line in (b'', b'-- ', b'--') or line[:1] in b'\t\f\r' for line in told))
 
 
-@change(RECOUNTED, 'recounted-starts')
-def without_empty_sides(case, out):
-    """No ranges where a hunk states or gets no old lines, or where a range line is damaged."""
-    return without_ranges(case, out, lambda *both: any(re.match(rb'@@ -\d+,0 |@ |@@ [^@]*$', line) for lines in both for line in lines))
+@change(RECOUNTED, 'recounted-text')
+def without_damaged_ranges(case, out):
+    """No ranges where a range line is damaged."""
+    return without_ranges(case, out, lambda *both: any(re.match(rb'@ |@@ [^@]*$', line) for lines in both for line in lines))
 
 
 @change(RECOUNTED, 'patchutils-slips')

@@ -58,7 +58,21 @@ def chosen_otherwise(words, text, out, cause):
     otherwise = [names for names, hunks in file_patches(text) if any(hunk_differs(words, hunk, cause) for hunk in hunks)]
     if any(word.startswith('--output-matching') for word in words):
         return without_patches(out, otherwise)
-    return b''.join(line + b'\n' for line in out.split(b'\n')[:-1] if not any(is_one_of(line, names) for names in otherwise))
+    return without_names(out, otherwise)
+
+
+FRONT = re.compile(rb'(?:\d+\t)?(?:[-+!] )?')
+
+
+def without_names(out, otherwise):
+    """The list without the file patches that have these names, and without the lines of their hunks."""
+    found, inside = [], False
+    for line in out.split(b'\n')[:-1]:
+        if not line.startswith(b'\t'):
+            inside = any(is_one_of(FRONT.sub(b'', line, count=1), names) for names in otherwise)
+        if not inside:
+            found.append(line + b'\n')
+    return b''.join(found)
 
 
 def without_patches(out, otherwise):

@@ -4,21 +4,19 @@ import re
 LONG = [
     (r'--(with|no)-filename', 'several-files'),
     (r'--clean', 'clean'),
-    (r'--only-match', 'only-match'),
     (r'--as-numbered-lines', 'as-numbered-lines'),
     (r'--(strip|addprefix|addoldprefix|addnewprefix|remove-timestamps)\b', 'output-names'),
-    (r'--empty-files-as', 'empty-as-absent'),
     (r'--(annotate|number-files|list|filter|grep|hunks|lines|files|format|file|decompress)\b', 'filter-words'),
     (r'--(hunk|excl|fo)=', 'filter-words'),
 ]
 LETTERS = {
-    'lsdiff': {'H': 'several-files', 'h': 'several-files', 'v': 'hunks-in-lists', 'N': 'filter-words', 'E': 'empty-as-absent', 'z': 'filter-words'},
-    'grepdiff': {'H': 'several-files', 'h': 'several-files', 'v': 'hunks-in-lists', **dict.fromkeys('nNsfIXz', 'filter-words')},
+    'lsdiff': {'H': 'several-files', 'h': 'several-files', 'N': 'filter-words', 'z': 'filter-words'},
+    'grepdiff': {'H': 'several-files', 'h': 'several-files', **dict.fromkeys('Nfz', 'filter-words')},
     'filterdiff': {'v': 'text-between', '#': 'filter-words', 'F': 'filter-words', 'z': 'filter-words', 'n': 'filter-words'},
     'splitdiff': dict.fromkeys('dDEpv', 'split-names'),
     'recountdiff': {},
 }
-VERBOSE = {'filterdiff': 'text-between', 'lsdiff': 'hunks-in-lists', 'grepdiff': 'hunks-in-lists'}
+VERBOSE = {'filterdiff': 'text-between'}
 
 
 def key_of_letters(tool, word):
@@ -53,7 +51,8 @@ def key_of_refusal(run, told):
     """The key of a call whose words ours refuses; told is what it says of them."""
     named = re.findall(r'"([^"]*)"', told.split('\n')[1])
     if "can't take" in told and len(named) == 2:
-        return 'filter-words' if option_of(named[0]) == option_of(named[1]) else None
+        same = option_of(named[0]) == option_of(named[1])
+        return 'filter-words' if same else next(filter(None, (key_of_word(run.tool, word) for word in named)), None)
     if "can't take" in told and named in (['p'], ['q'], ['missing']):
         return 'several-files'
     words = [word for word in named if word and not (len(named) == 2 and word == named[0])]

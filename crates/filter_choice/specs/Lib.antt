@@ -3,3 +3,4 @@ pub mod OldLines
 pub mod Kept
 pub mod Outlined
 pub mod Digested
+pub mod Shown

@@ -12,6 +12,7 @@ use Rattle.outside.proofs.SinkSteps.{HasPut, GoesOn, has-more, has-none}
 use Rattle.patch_filters.specs.declared.fault.GrepFault.{GrepFault}
 use Rattle.patch_filters.specs.declared.fault.GrepFault.TheVariants.{Pattern, Write, Memory}
 use Rattle.file_patch.specs.declared.FilePatch.{FilePatch}
+use Rattle.tool_words.specs.PlainJobs.{PlainGrepJob}
 use Rattle.tool_words.specs.declared.jobs.GrepOut.{GrepOut}
 use Rattle.patch_filters.specs.Grepped.{IsAsked, IsFindFault, IsPatternFault, HasGrepCause, Finds, found_text, test_by, test_of}
 use Rattle.patch_filters.proofs.Searching.{asked-none, asked-both, same-test}
@@ -107,8 +108,8 @@ module _ {O : Type 0} {view : O → SinkView} {same : O → O → Type 0} where
   if-unset true x is p = absurd (false≢true (sym is))
   if-unset false x is p = p
 
-  pub by-output : {a n : FinderView} {old new : O} {R : Type 0} {r : Result R GrepFault} (hit : List ℕ → Bool) (text : List ℕ) (q : FilePatch) (asked kind : GrepOut) → asked ≡ kind → Finds view same a n old new r (found_text hit kind text q) → Finds view same a n old new r (found_text hit asked text q)
-  by-output {a = a} {n = n} {old = old} {new = new} {r = r} hit text q asked kind is p = subst (λ o. Finds view same a n old new r (found_text hit o text q)) (sym is) p
+  pub by-output : {a n : FinderView} {old new : O} {R : Type 0} {r : Result R GrepFault} (hit : List ℕ → Bool) (j : PlainGrepJob) (text : List ℕ) (q : FilePatch) (asked kind : GrepOut) → asked ≡ kind → Finds view same a n old new r (found_text hit kind j text q) → Finds view same a n old new r (found_text hit asked j text q)
+  by-output {a = a} {n = n} {old = old} {new = new} {r = r} hit j text q asked kind is p = subst (λ o. Finds view same a n old new r (found_text hit o j text q)) (sym is) p
 
   -- what depends on the finder's test is the same before and after it was asked
   pub by-first : {a m n : FinderView} {mid new : O} {R : Type 0} {r : Result R GrepFault} (bytes : (List ℕ → Bool) → List ℕ) → IsAsked a m → Finds view same m n mid new r (bytes (test_of m)) → Finds view same m n mid new r (bytes (test_of a))

@@ -1,6 +1,6 @@
 -- Which hunks have a hit, and what is written of them.
-use Rattle.std.proofs.Common.{◌≡◌, ℕ, zero, suc, ◌+◌, ◌<◌, Bool, true, false, ◌||◌, List, [], ◌∷◌, ◌++◌, length, get_or, map, take, drop, Some, refl, sym, ap, subst, ◌∙◌, arith}
-use Rattle.std.specs.Prelude.{slice_get, option_map, ◌==◌, ◌^◌, All}
+use Rattle.std.proofs.Common.{◌≡◌, ℕ, zero, suc, ◌+◌, ◌<◌, Bool, true, false, cond, ◌&&◌, ◌||◌, List, [], ◌∷◌, ◌++◌, length, get_or, map, take, drop, Some, refl, sym, ap, subst, ◌∙◌, arith}
+use Rattle.std.specs.Prelude.{slice_get, option_map, filter, if◌then◌else◌, ◌==◌, ◌^◌, All}
 use Rattle.std.specs.List.{flat_map, list_any, zip}
 use Rattle.std.proofs.lemmas.Bool.{eqb-true}
 use Rattle.std.proofs.lemmas.List.{length-map}
@@ -23,16 +23,18 @@ use Rattle.patch_set.specs.SetView.{SetView}
 use Rattle.patch_set.specs.Spans.{IsPlaced}
 use Rattle.patch_set.proofs.Named.{rows-counted}
 use Rattle.tool_words.specs.PlainJobs.{PlainGrepJob}
+use Rattle.tool_words.specs.declared.jobs.Searched.{Searched}
+use Rattle.hunk_core.specs.declared.Mark.TheVariants.{Add}
 use Rattle.patch_header.specs.Content.{content}
 use Rattle.patch_filters.specs.Filtered.{pieces, text_if}
-use Rattle.patch_filters.specs.Grepped.{IsFirst, contents, found_text, grepped, hits_of, is_found, text_if_found}
+use Rattle.patch_filters.specs.Grepped.{IsFirst, contents, found_text, grepped, hits_of, is_found, is_searched, text_if_found}
 use Rattle.filter_choice.proofs.Rows.{any-map, flat-if}
 use Rattle.outside.proofs.Loops.{up_to, one-more, both}
 use Rattle.patch_filters.proofs.Flagged.{rows, rows-long, row-at}
 
 pub grepped-is : (hit : List ℕ → Bool) (j : PlainGrepJob) (v : SetView) → grepped hit j v ≡ flat_map (text_if_found hit j v.text) v.patches
 unfolding grepped
-grepped-is hit j v = flat-if (λ (p : FilePatch). is_found hit j (patch_of v.text p)) (found_text hit j.output v.text) v.patches
+grepped-is hit j v = flat-if (λ (p : FilePatch). is_found hit j (patch_of v.text p)) (found_text hit j.output j v.text) v.patches
 
 pub grepped-none : (hit : List ℕ → Bool) (j : PlainGrepJob) (v : SetView) → v.patches ≡ [] → [] ≡ grepped hit j v
 grepped-none hit j v none = sym (grepped-is hit j v ∙ ap (flat_map (text_if_found hit j v.text)) none)
@@ -46,38 +48,51 @@ pub has-none-in : {A : Type 0} (xs : List A) → (length xs == 0) ≡ false → 
 has-none-in [] is none = absurd cc
 has-none-in (x ∷ xs) is none = absurd cc
 
-contents-count : (c : PlainChange) → length (contents c) ≡ hunk_count c
-contents-count (hunks hs) = length-map hs _
-contents-count (script es) = refl
+contents-count : (searched : Searched) (c : PlainChange) → length (contents searched c) ≡ hunk_count c
+contents-count searched (hunks hs) = length-map hs _
+contents-count searched (script es) = refl
 
-pub hits-long : (hit : List ℕ → Bool) (text : List ℕ) (c : Change) → length (hits_of hit (change_of text c)) ≡ row_count c
-hits-long hit text c = length-map (contents (change_of text c)) (list_any hit) ∙ contents-count (change_of text c) ∙ rows-counted text c
+pub hits-long : (searched : Searched) (hit : List ℕ → Bool) (text : List ℕ) (c : Change) → length (hits_of searched hit (change_of text c)) ≡ row_count c
+hits-long searched hit text c = length-map (contents searched (change_of text c)) (list_any hit) ∙ contents-count searched (change_of text c) ∙ rows-counted text c
 
-pub hits-same : (hit : List ℕ → Bool) (t text : List ℕ) (q p : FilePatch) → t ≡ text → q ≡ p → hits_of hit (change_of t q.change) ≡ hits_of hit (change_of text p.change)
-hits-same hit t text q p is also = ap (λ x. hits_of hit (change_of x q.change)) is ∙ ap (λ (x : FilePatch). hits_of hit (change_of text x.change)) also
+pub hits-same : (searched : Searched) (hit : List ℕ → Bool) (t text : List ℕ) (q p : FilePatch) → t ≡ text → q ≡ p → hits_of searched hit (change_of t q.change) ≡ hits_of searched hit (change_of text p.change)
+hits-same searched hit t text q p is also = ap (λ x. hits_of searched hit (change_of x q.change)) is ∙ ap (λ (x : FilePatch). hits_of searched hit (change_of text x.change)) also
 
 -- ---- lines as flags
 
 flags-any : {A : Type 0} (test : A → Bool) (xs : List A) → list_any (λ is. is) (map test xs) ≡ list_any test xs
 flags-any test xs = sym (any-map (λ is. is) test xs)
 
+-- some element that is kept passes
+any-kept : {A : Type 0} (keep test : A → Bool) (xs : List A) → list_any (λ x. keep x && test x) xs ≡ list_any test (filter keep xs)
+any-kept keep test [] = refl
+any-kept keep test (x ∷ xs) = by (keep x) (any-kept keep test xs)
+  where
+    by : (b : Bool) → list_any (λ x. keep x && test x) xs ≡ list_any test (filter keep xs) → ((b && test x) || list_any (λ x. keep x && test x) xs) ≡ list_any test (cond b (x ∷ filter keep xs) (filter keep xs))
+    by true later = ap (λ r. test x || r) later
+    by false later = later
+
 module _ (text : List ℕ) where
-  abbrev pub line_flags : List HunkLine → (List ℕ → Bool) → List Bool
-  line_flags ls hit = map (λ l. hit (content (bytes_at text l.span))) ls
+  abbrev pub line_flag : Searched → (List ℕ → Bool) → HunkLine → Bool
+  line_flag searched hit l = is_searched searched l.mark && hit (content (bytes_at text l.span))
 
-  pub line-flag : (ls : List HunkLine) (hit : List ℕ → Bool) (i : ℕ) (l : HunkLine) (b : Bool) → slice_get ls i ≡ Some l → b ≡ hit (content (bytes_at text l.span)) → slice_get (line_flags ls hit) i ≡ Some b
-  line-flag ls hit i l b is answer =
-      let flag : HunkLine → Bool = λ l. hit (content (bytes_at text l.span)) in
-      slice_get-map flag ls i ∙ ap (option_map flag) is ∙ ap (λ f. Some f) (sym answer)
+  abbrev pub line_flags : Searched → List HunkLine → (List ℕ → Bool) → List Bool
+  line_flags searched ls hit = map (line_flag searched hit) ls
 
-  pub line-count : (ls : List HunkLine) (hit : List ℕ → Bool) → length (line_flags ls hit) ≡ length ls
-  line-count ls hit = length-map ls _
+  pub line-flag : (searched : Searched) (ls : List HunkLine) (hit : List ℕ → Bool) (i : ℕ) (l : HunkLine) (b : Bool) → slice_get ls i ≡ Some l → b ≡ line_flag searched hit l → slice_get (line_flags searched ls hit) i ≡ Some b
+  line-flag searched ls hit i l b is answer =
+      slice_get-map (line_flag searched hit) ls i ∙ ap (option_map (line_flag searched hit)) is ∙ ap (λ f. Some f) (sym answer)
 
-  pub lines-any : (ls : List HunkLine) (hit : List ℕ → Bool) → list_any (λ is. is) (line_flags ls hit) ≡ list_any hit (map (λ m. content m.line) (body_of text ls))
-  lines-any ls hit =
-      flags-any (λ (l : HunkLine). hit (content (bytes_at text l.span))) ls
-      ∙ any-map (λ (m : Marked). hit (content m.line)) (marked_of text) ls
-      ∙ any-map hit (λ (m : Marked). content m.line) (body_of text ls)
+  pub line-count : (searched : Searched) (ls : List HunkLine) (hit : List ℕ → Bool) → length (line_flags searched ls hit) ≡ length ls
+  line-count searched ls hit = length-map ls _
+
+  pub lines-any : (searched : Searched) (ls : List HunkLine) (hit : List ℕ → Bool)
+      → list_any (λ is. is) (line_flags searched ls hit) ≡ list_any hit (map (λ m. content m.line) (filter (λ m. is_searched searched m.mark) (body_of text ls)))
+  lines-any searched ls hit =
+      flags-any (line_flag searched hit) ls
+      ∙ any-map (λ (m : Marked). is_searched searched m.mark && hit (content m.line)) (marked_of text) ls
+      ∙ any-kept (λ (m : Marked). is_searched searched m.mark) (λ (m : Marked). hit (content m.line)) (body_of text ls)
+      ∙ any-map hit (λ (m : Marked). content m.line) (filter (λ (m : Marked). is_searched searched m.mark) (body_of text ls))
 
   abbrev pub span_flags : List Span → (List ℕ → Bool) → List Bool
   span_flags spans hit = map (λ s. hit (content (bytes_at text s))) spans
@@ -117,11 +132,12 @@ module _ (text : List ℕ) where
 
   -- ---- the flag of a hunk
 
-  pub hunk-hits : (hit : List ℕ → Bool) (hs : List Hunk) (i : ℕ) (h : Hunk) → slice_get hs i ≡ Some h → get_or (hits_of hit (hunks (hunks_of text hs))) i false ≡ list_any hit (map (λ m. content m.line) (hunk_of text h).body)
-  hunk-hits hit hs i h is =
-      let lines : Hunk → List (List ℕ) = λ h. map (λ (m : Marked). content m.line) (hunk_of text h).body in
+  pub hunk-hits : (searched : Searched) (hit : List ℕ → Bool) (hs : List Hunk) (i : ℕ) (h : Hunk) → slice_get hs i ≡ Some h
+      → get_or (hits_of searched hit (hunks (hunks_of text hs))) i false ≡ list_any hit (map (λ m. content m.line) (filter (λ m. is_searched searched m.mark) (hunk_of text h).body))
+  hunk-hits searched hit hs i h is =
+      let lines : Hunk → List (List ℕ) = λ h. map (λ (m : Marked). content m.line) (filter (λ (m : Marked). is_searched searched m.mark) (hunk_of text h).body) in
       get_or_from_slice_get _ i (list_any hit (lines h)) false
-      (slice_get-map (list_any hit) (contents (hunks (hunks_of text hs))) i
+      (slice_get-map (list_any hit) (contents searched (hunks (hunks_of text hs))) i
       ∙ ap (option_map (list_any hit)) (slice_get-map _ (hunks_of text hs) i ∙ ap (option_map _) (slice_get-map (hunk_of text) hs i ∙ ap (option_map (hunk_of text)) is)))
 
 -- ---- the first hunk with a hit
@@ -131,6 +147,14 @@ first-within flags i first = slice_get_within flags i true first.1
 
 pub first-some : (flags : List Bool) (i : ℕ) → IsFirst flags (Some i) → list_any (λ is. is) flags ≡ true
 first-some flags i first = list_any_at (λ is. is) flags i false (first-within flags i first) (get_or_from_slice_get flags i true false first.1)
+
+-- none before it has a hit
+pub none-before : (flags : List Bool) (i first : ℕ) → list_any (λ is. is) (take first flags) ≡ false → i < first → get_or flags i false ≡ false
+none-before [] i first none lt = refl
+none-before (b ∷ flags) i zero none lt = absurd (omega (arith, lt))
+none-before (true ∷ flags) i (suc first) none lt = absurd cc
+none-before (false ∷ flags) zero (suc first) none lt = refl
+none-before (false ∷ flags) (suc i) (suc first) none lt = none-before flags i first none (omega (arith, lt))
 
 -- nothing is written before it
 pub none-chosen : (flags : List Bool) (texts : List (List ℕ)) (i : ℕ) → list_any (λ is. is) (take i flags) ≡ false → flat_map text_if (take i (zip flags texts)) ≡ []
@@ -166,7 +190,7 @@ few-rows text (Script s) is = omega arith
 pub all-at : {A : Type 0} (P : A → Type 0) (xs : List A) (i : ℕ) (x : A) → All P xs → i < length xs → x ≡ get_or xs i x → P x
 all-at P xs i x all lt is = subst P (sym is) (All-get_or P xs i x lt all)
 
-pub script-hit : (text : List ℕ) (hit : List ℕ → Bool) (s : EdScript) (i : ℕ) → i < 1
-    → list_any hit (flat_map (λ e. map content e.added) (edits_of text s.edits.items)) ≡ get_or (hits_of hit (change_of text (Script s))) i false
-script-hit text hit s zero lt = refl
-script-hit text hit s (suc i) lt = absurd (omega (arith, lt))
+pub script-hit : (text : List ℕ) (searched : Searched) (hit : List ℕ → Bool) (s : EdScript) (i : ℕ) → i < 1
+    → list_any hit (if is_searched searched Add then flat_map (λ e. map content e.added) (edits_of text s.edits.items) else []) ≡ get_or (hits_of searched hit (change_of text (Script s))) i false
+script-hit text searched hit s zero lt = refl
+script-hit text searched hit s (suc i) lt = absurd (omega (arith, lt))

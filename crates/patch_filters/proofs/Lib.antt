@@ -4,6 +4,8 @@ mod Whole
 mod AsWritten
 mod Refusals
 mod Searching
+mod Begun
+mod Lined
 mod Finding
 mod Hits
 pub mod Outlined

@@ -7,11 +7,11 @@ use Rattle.hunk_core.specs.declared.Side.TheVariants.{Forward, Reversed}
 use Rattle.file_patch.specs.PlainPatch.{PlainChange, PlainPatch, hunks, script}
 use Rattle.file_patch.specs.Actions.{is_moved}
 use Rattle.file_patch.specs.Absent.{is_absent, is_empty_on, is_epoch, is_null, is_said_absent, name_on, stamp_on}
-use Rattle.file_patch.specs.Stripped.{shortened}
 use Rattle.patch_text.specs.Outlines.{only_hunk, outline}
 use Rattle.patch_set.specs.PlainName.{plain_name}
 use Rattle.tool_words.specs.PlainJobs.{PlainListJob}
-use Rattle.patch_filters.specs.Listed.{is_listed, list_line, listed, number_text, sign}
+use Rattle.filter_choice.specs.Shown.{shown_name}
+use Rattle.patch_filters.specs.Listed.{is_gone, is_listed, listed, name_line, number_text, sign}
 
 same-empty : (side : Side) (c : PlainChange) → is_empty_on side (only_hunk c) ≡ is_empty_on side c
 same-empty side (hunks []) = refl
@@ -22,23 +22,30 @@ same-empty side (script es) = refl
 same-absent : (side : Side) (p : PlainPatch) → is_absent side (outline p) ≡ is_absent side p
 same-absent side p = ap (λ b. is_null (name_on side p.header) || (is_said_absent side p.header.action || (b && is_epoch (stamp_on side p.header)))) (same-empty side p.change)
 
-same-sign : (p : PlainPatch) → sign (outline p) ≡ sign p
-same-sign p =
-    ap (λ b. if is_moved p.header.action then codes "! " else if b then codes "+ " else if is_absent Reversed (outline p) then codes "- " else codes "! ") (same-absent Forward p)
-    ∙ ap (λ b. if is_moved p.header.action then codes "! " else if is_absent Forward p then codes "+ " else if b then codes "- " else codes "! ") (same-absent Reversed p)
+same-gone : (side : Side) (p : PlainPatch) → is_gone false side (outline p) ≡ is_gone false side p
+same-gone side p = ap (λ b. b || false) (same-absent side p)
 
-same-line : (j : PlainListJob) (p : PlainPatch) → list_line j (outline p) ≡ list_line j p
-same-line j p = ap (λ (s : List ℕ). (number_text j.numbers p.header.names_line ++ (if j.status then s else [])) ++ (shortened j.shown_strip (plain_name p.header) ++ codes "\n")) (same-sign p)
+same-sign : (empty : Bool) (p : PlainPatch) → empty ≡ false → sign empty (outline p) ≡ sign empty p
+same-sign true p none = cc
+same-sign false p none =
+    ap (λ b. if is_moved p.header.action then codes "! " else if b then codes "+ " else if is_gone false Reversed (outline p) then codes "- " else codes "! ") (same-gone Forward p)
+    ∙ ap (λ b. if is_moved p.header.action then codes "! " else if is_gone false Forward p then codes "+ " else if b then codes "- " else codes "! ") (same-gone Reversed p)
 
-same-lines : (j : PlainListJob) (ps : List PlainPatch) → flat_map (list_line j) (filter (is_listed j) (map outline ps)) ≡ flat_map (list_line j) (filter (is_listed j) ps)
-same-lines j [] = refl
-same-lines j (p ∷ ps) = by (is_listed j p) (same-lines j ps)
-  where
-    by : (b : Bool) → flat_map (list_line j) (filter (is_listed j) (map outline ps)) ≡ flat_map (list_line j) (filter (is_listed j) ps)
-        → flat_map (list_line j) (cond b (outline p ∷ filter (is_listed j) (map outline ps)) (filter (is_listed j) (map outline ps))) ≡ flat_map (list_line j) (cond b (p ∷ filter (is_listed j) ps) (filter (is_listed j) ps))
-    by true later = ap (λ (line : List ℕ). line ++ flat_map (list_line j) (filter (is_listed j) (map outline ps))) (same-line j p) ∙ ap (λ (lines : List ℕ). list_line j p ++ lines) later
-    by false later = later
+module _ (j : PlainListJob) (none : j.shown.empty_absent ≡ false) where
+  same-line : (p : PlainPatch) → name_line j.shown (outline p) ≡ name_line j.shown p
+  same-line p =
+      let s = j.shown in
+      ap (λ (t : List ℕ). (number_text s.numbers p.header.names_line ++ (if s.status then t else [])) ++ (shown_name s.prefix s.strip (plain_name p.header) ++ codes "\n")) (same-sign s.empty_absent p none)
 
-pub outlines-listed : (j : PlainListJob) (ps : List PlainPatch) → listed j (map outline ps) ≡ listed j ps
-unfolding listed
-outlines-listed j ps = same-lines j ps
+  same-lines : (ps : List PlainPatch) → flat_map (name_line j.shown) (filter (is_listed j) (map outline ps)) ≡ flat_map (name_line j.shown) (filter (is_listed j) ps)
+  same-lines [] = refl
+  same-lines (p ∷ ps) = by (is_listed j p) (same-lines ps)
+    where
+      by : (b : Bool) → flat_map (name_line j.shown) (filter (is_listed j) (map outline ps)) ≡ flat_map (name_line j.shown) (filter (is_listed j) ps)
+          → flat_map (name_line j.shown) (cond b (outline p ∷ filter (is_listed j) (map outline ps)) (filter (is_listed j) (map outline ps))) ≡ flat_map (name_line j.shown) (cond b (p ∷ filter (is_listed j) ps) (filter (is_listed j) ps))
+      by true later = ap (λ (line : List ℕ). line ++ flat_map (name_line j.shown) (filter (is_listed j) (map outline ps))) (same-line p) ∙ ap (λ (lines : List ℕ). name_line j.shown p ++ lines) later
+      by false later = later
+
+  pub outlines-listed : (ps : List PlainPatch) → listed j (map outline ps) ≡ listed j ps
+  unfolding listed
+  outlines-listed ps = same-lines ps

@@ -1,48 +1,66 @@
 -- What is written of the file patches of which a line is found (manual page of `grepdiff`).
-use Rattle.std.specs.Prelude.{◌≡◌, ℕ, Bool, true, false, ◌&&◌, filter, List, [], ◌∷◌, ◌++◌, codes, map, take, slice_get, Option, None, Some, Result, IfErr, OnOk, OnErr, if◌then◌else◌}
+use Rattle.std.specs.Prelude.{◌≡◌, ℕ, Bool, true, false, ◌&&◌, filter, List, [], ◌∷◌, ◌++◌, map, take, slice_get, Option, None, Some, Result, IfErr, OnOk, OnErr, if◌then◌else◌}
 use Rattle.std.specs.List.{flat_map, list_any}
 use Rattle.outside.specs.FinderView.{FinderView, FinderPasses}
 use Rattle.outside.specs.SinkView.{SinkView, SinkPasses, Receives, ReceivesPart, Rises}
 use Rattle.hunk_core.specs.PlainHunk.{bytes_at}
 use Rattle.file_patch.specs.declared.FilePatch.{FilePatch}
-use Rattle.file_patch.specs.PlainPatch.{PlainChange, PlainPatch, hunks, script, change_of, header_of, patch_of}
+use Rattle.file_patch.specs.PlainPatch.{PlainChange, PlainPatch, hunks, script, change_of, patch_of}
 use Rattle.patch_set.specs.PlainName.{plain_name}
 use Rattle.patch_set.specs.SetView.{SetView}
 use Rattle.tool_words.specs.PlainJobs.{PlainGrepJob}
+use Rattle.tool_words.specs.declared.jobs.Searched.{Searched}
+use Rattle.tool_words.specs.declared.jobs.Searched.TheVariants.{All, Removed, Added, Changed}
+use Rattle.hunk_core.specs.declared.Mark.{Mark}
+use Rattle.hunk_core.specs.declared.Mark.TheVariants.{Keep, Drop, Add}
 use Rattle.tool_words.specs.declared.jobs.GrepOut.{GrepOut}
 use Rattle.tool_words.specs.declared.jobs.GrepOut.TheVariants.{Names, Hunks, Files}
 pub use Rattle.patch_header.specs.Content.{content}
 use Rattle.patch_filters.specs.declared.fault.GrepFault.{GrepFault}
 use Rattle.patch_filters.specs.declared.fault.GrepFault.TheVariants.{Pattern, Write, Memory}
 use Rattle.filter_choice.specs.Selected.{is_selected}
-use Rattle.patch_filters.specs.Filtered.{region, pieces, chosen}
+use Rattle.patch_filters.specs.Filtered.{region, pieces, chosen, text_if}
+use Rattle.patch_filters.specs.HunkLines.{hunk_lines}
+use Rattle.patch_filters.specs.Listed.{name_line}
 
--- the contents of all lines of each hunk, without their marks; an ed script is one hunk, with the lines that it inserts
-abbrev pub contents : PlainChange → List (List (List ℕ))
-contents (hunks hs) = map (λ h. map (λ m. content m.line) h.body) hs
-contents (script es) = flat_map (λ e. map content e.added) es ∷ []
+-- lines with this mark are searched
+abbrev pub is_searched : Searched → Mark → Bool
+is_searched All mark = true
+is_searched searched Keep = false
+is_searched Removed Drop = true
+is_searched Removed Add = false
+is_searched Added Drop = false
+is_searched Added Add = true
+is_searched Changed Drop = true
+is_searched Changed Add = true
+
+-- the contents of the lines of each hunk that are searched, without their marks; an ed script is one hunk, with the lines that it inserts
+abbrev pub contents : Searched → PlainChange → List (List (List ℕ))
+contents searched (hunks hs) = map (λ h. map (λ m. content m.line) (filter (λ m. is_searched searched m.mark) h.body)) hs
+contents searched (script es) = (if is_searched searched Add then flat_map (λ e. map content e.added) es else []) ∷ []
 
 -- for each hunk whether one of its contents has a hit
-abbrev pub hits_of : (List ℕ → Bool) → PlainChange → List Bool
-hits_of hit c = map (list_any hit) (contents c)
+abbrev pub hits_of : Searched → (List ℕ → Bool) → PlainChange → List Bool
+hits_of searched hit c = map (list_any hit) (contents searched c)
 
 -- the file patch is selected, and one of its hunks has a hit
 abbrev pub is_found : (List ℕ → Bool) → PlainGrepJob → PlainPatch → Bool
-is_found hit j p = is_selected j.select (plain_name p.header) && list_any (λ is. is) (hits_of hit p.change)
+is_found hit j p = is_selected j.select (plain_name p.header) && list_any (λ is. is) (hits_of j.searched hit p.change)
 
--- of a file patch that is found its whole name, its region and just the hunks with a hit, or all of it
-abbrev pub found_text : (List ℕ → Bool) → GrepOut → List ℕ → FilePatch → List ℕ
-found_text hit Names text p = plain_name (header_of text p.header) ++ codes "\n"
-found_text hit Hunks text p = region text p ++ chosen (hits_of hit (change_of text p.change)) (pieces text p)
-found_text hit Files text p = bytes_at text p.span
+-- of a file patch that is found its line and, where that is asked for, those of the hunks with a hit; or its region and just these hunks;
+-- or all of it
+abbrev pub found_text : (List ℕ → Bool) → GrepOut → PlainGrepJob → List ℕ → FilePatch → List ℕ
+found_text hit Names j text p = name_line j.shown (patch_of text p) ++ text_if (j.shown.hunks, chosen (hits_of j.searched hit (change_of text p.change)) (hunk_lines text p))
+found_text hit Hunks j text p = region text p ++ chosen (hits_of j.searched hit (change_of text p.change)) (pieces text p)
+found_text hit Files j text p = bytes_at text p.span
 
 -- what is written of the file patches that are found
 unfoldable pub grepped : (List ℕ → Bool) → PlainGrepJob → SetView → List ℕ
-grepped hit j v = flat_map (found_text hit j.output v.text) (filter (λ p. is_found hit j (patch_of v.text p)) v.patches)
+grepped hit j v = flat_map (found_text hit j.output j v.text) (filter (λ p. is_found hit j (patch_of v.text p)) v.patches)
 
 -- the same of one file patch
 abbrev pub text_if_found : (List ℕ → Bool) → PlainGrepJob → List ℕ → FilePatch → List ℕ
-text_if_found hit j text p = if is_found hit j (patch_of text p) then found_text hit j.output text p else []
+text_if_found hit j text p = if is_found hit j (patch_of text p) then found_text hit j.output j text p else []
 
 -- ---- one call
 

@@ -1,5 +1,6 @@
-pub mod Listed
 pub mod Filtered
+pub mod HunkLines
+pub mod Listed
 pub mod Digested
 pub mod Grepped
 pub mod Laws

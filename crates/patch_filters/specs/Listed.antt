@@ -1,35 +1,56 @@
 -- What a list of file patches says (manual page of `lsdiff`).
-use Rattle.std.specs.Prelude.{ℕ, Bool, filter, List, [], ◌++◌, codes, if◌then◌else◌}
-use Rattle.std.specs.List.{flat_map}
+use Rattle.std.specs.Prelude.{ℕ, Bool, false, not, ◌&&◌, ◌||◌, filter, List, [], ◌∷◌, ◌++◌, codes, if◌then◌else◌}
+use Rattle.std.specs.List.{flat_map, list_any}
 use Rattle.num_text.specs.Numbers.{decimal}
+use Rattle.hunk_core.specs.PlainHunk.{PlainHunk}
+use Rattle.hunk_core.specs.Sides.{is_on_side}
+use Rattle.hunk_core.specs.declared.Side.{Side}
 use Rattle.hunk_core.specs.declared.Side.TheVariants.{Forward, Reversed}
-use Rattle.file_patch.specs.Stripped.{shortened}
-use Rattle.file_patch.specs.PlainPatch.{PlainPatch}
+use Rattle.file_patch.specs.declared.FilePatch.{FilePatch}
+use Rattle.file_patch.specs.PlainPatch.{PlainChange, PlainPatch, hunks, script, patch_of}
 use Rattle.file_patch.specs.Actions.{is_moved}
 use Rattle.file_patch.specs.Absent.{is_absent}
 use Rattle.patch_set.specs.PlainName.{plain_name}
-use Rattle.tool_words.specs.PlainJobs.{PlainListJob}
+use Rattle.patch_set.specs.SetView.{SetView}
+use Rattle.tool_words.specs.PlainJobs.{PlainShown, PlainListJob}
 use Rattle.filter_choice.specs.Selected.{is_selected}
+use Rattle.filter_choice.specs.Shown.{shown_name}
+use Rattle.patch_filters.specs.Filtered.{text_if}
+use Rattle.patch_filters.specs.HunkLines.{hunk_lines}
+
+-- a hunk has a line on this side
+abbrev pub has_line : Side → PlainHunk → Bool
+has_line side h = list_any (λ m. is_on_side side m.mark) h.body
+
+-- there are hunks, and none has a line on this side
+abbrev pub has_no_line : Side → PlainChange → Bool
+has_no_line side (hunks []) = false
+has_no_line side (hunks (h ∷ hs)) = not (list_any (has_line side) (h ∷ hs))
+has_no_line side (script es) = false
+
+-- the side is no file; where that is asked for, also one of which no hunk has a line
+abbrev pub is_gone : Bool → Side → PlainPatch → Bool
+is_gone empty side p = is_absent side p || (empty && has_no_line side p.change)
 
 -- whether the old side is no file, or else the new one, or both are files; a file that is renamed or copied has both sides
-abbrev pub sign : PlainPatch → List ℕ
-sign p = if is_moved p.header.action then codes "! " else if is_absent Forward p then codes "+ " else if is_absent Reversed p then codes "- " else codes "! "
+abbrev pub sign : Bool → PlainPatch → List ℕ
+sign empty p = if is_moved p.header.action then codes "! " else if is_gone empty Forward p then codes "+ " else if is_gone empty Reversed p then codes "- " else codes "! "
 
 -- a number and a tab, where it is asked for
 abbrev pub number_text : Bool → ℕ → List ℕ
 number_text is_asked number = if is_asked then decimal number ++ codes "\t" else []
 
 -- the sign, where it is asked for
-abbrev pub sign_text : Bool → PlainPatch → List ℕ
-sign_text is_asked p = if is_asked then sign p else []
+abbrev pub sign_text : PlainShown → PlainPatch → List ℕ
+sign_text s p = if s.status then sign s.empty_absent p else []
 
 -- what stands in front of a name: the number of the line of the names, and the sign
-abbrev pub front : PlainListJob → PlainPatch → List ℕ
-front j p = number_text j.numbers p.header.names_line ++ sign_text j.status p
+abbrev pub front : PlainShown → PlainPatch → List ℕ
+front s p = number_text s.numbers p.header.names_line ++ sign_text s p
 
--- the line of a file patch, with its name once it is stripped for showing
-abbrev pub list_line : PlainListJob → PlainPatch → List ℕ
-list_line j p = front j p ++ (shortened j.shown_strip (plain_name p.header) ++ codes "\n")
+-- the line of a file patch, with its name as it is shown
+abbrev pub name_line : PlainShown → PlainPatch → List ℕ
+name_line s p = front s p ++ (shown_name s.prefix s.strip (plain_name p.header) ++ codes "\n")
 
 -- the file patch is selected
 abbrev pub is_listed : PlainListJob → PlainPatch → Bool
@@ -37,8 +58,26 @@ is_listed j p = is_selected j.select (plain_name p.header)
 
 -- a line for each selected file patch
 unfoldable pub listed : PlainListJob → List PlainPatch → List ℕ
-listed j ps = flat_map (list_line j) (filter (is_listed j) ps)
+listed j ps = flat_map (name_line j.shown) (filter (is_listed j) ps)
 
 -- the same of one file patch
 abbrev pub line_if_selected : PlainListJob → PlainPatch → List ℕ
-line_if_selected j p = if is_listed j p then list_line j p else []
+line_if_selected j p = if is_listed j p then name_line j.shown p else []
+
+-- ---- with all hunks at hand
+
+-- the hunks are asked for: their lines, or whether one has a line on a side
+abbrev pub asks_hunks : PlainShown → Bool
+asks_hunks s = s.hunks || s.empty_absent
+
+-- the line of a file patch, and those of its hunks where they are asked for
+abbrev pub list_lines : PlainListJob → List ℕ → FilePatch → List ℕ
+list_lines j text p = name_line j.shown (patch_of text p) ++ text_if (j.shown.hunks, flat_map (λ line. line) (hunk_lines text p))
+
+-- those of each selected file patch
+unfoldable pub listed_whole : PlainListJob → SetView → List ℕ
+listed_whole j v = flat_map (list_lines j v.text) (filter (λ p. is_listed j (patch_of v.text p)) v.patches)
+
+-- the same of one file patch
+abbrev pub lines_if_selected : PlainListJob → List ℕ → FilePatch → List ℕ
+lines_if_selected j text p = if is_listed j (patch_of text p) then list_lines j text p else []

@@ -1,6 +1,6 @@
 //! The file patches of a set of which a line is found.
 
-ghost use Rattle.std.specs.Prelude.{◌≡◌, ◌<◌, ◌++◌, IsSome, [], Ok, Some, false, length, slice_index_or, string_bytes, OnOk, OnErr, IfErr};
+ghost use Rattle.std.specs.Prelude.{◌≡◌, ◌<◌, ◌++◌, IsSome, [], Ok, Some, false, length, slice_index_or, string_bytes, IfOk, OnOk, OnErr, IfErr};
 ghost use Rattle.std.specs.Option.{ForSome};
 ghost use Rattle.outside.specs.FinderView.{FinderPasses};
 ghost use Rattle.outside.specs.SinkView.{Receives, ReceivesPart, SinkPasses};
@@ -9,23 +9,26 @@ ghost use Rattle.patch_set.specs.SetView.{patch_at};
 ghost use Rattle.patch_set.specs.Spans.{IsPlaced};
 ghost use Rattle.tool_words.specs.PlainJobs.{plain_grep_job};
 ghost use Rattle.patch_filters.specs.Filtered.{chosen, pieces, region, text_if};
-ghost use Rattle.patch_filters.specs.Grepped.{Finds, HasGrepCause, IsFirst, found_text, grepped, hits_of, test_of, text_if_found};
+ghost use Rattle.patch_filters.specs.HunkLines.{hunk_lines};
+ghost use Rattle.patch_filters.specs.Grepped.{Finds, HasGrepCause, IsAsked, IsFirst, found_text, grepped, hits_of, test_of, text_if_found};
 
 use crate::GrepFault;
-use crate::list::put_line;
+use crate::hunk_lines::{first_line, hunk_feeds, hunk_line};
+use crate::list::put_name_line;
 use crate::pieces::{bytes_at, put_hunk, put_piece, put_region};
 use crate::search::{first_hit, is_hit, keep_pattern};
 use file_patch::FilePatch;
 use filter_choice::{is_selected, patch_at};
 use outside::{Finder, Sink};
 use patch_set::PatchSet;
-use std::alloc::Global;
-use tool_words::{GrepJob, GrepOut};
+use std::alloc::{AllocError, Global};
+use tool_words::{GrepJob, GrepOut, Searched};
 
 /// Writes a hunk, counted from 0, if it has a hit.
 fn put_if_hit<F: Finder, O: Sink>(
     alloc: Global,
     text: &[u8],
+    searched: Searched,
     patch: &FilePatch,
     hunk: u32,
     finder: &mut F,
@@ -35,9 +38,9 @@ fn put_if_hit<F: Finder, O: Sink>(
     requires lawful { IsLawfulChange text.now patch.now.change }
     requires placed { IsPlaced text.now patch.now.span.start patch.now.first_verdict patch.now }
     requires within { hunk < row_count patch.now.change }
-    ensures { Finds O.view O.same_rest (F.view finder.old) (F.view finder.new) out.old out.new result (text_if (slice_index_or (hits_of (test_of (F.view finder.old)) (change_of text.now patch.now.change)) hunk false, slice_index_or (pieces text.now patch.now) hunk [])) }
+    ensures { Finds O.view O.same_rest (F.view finder.old) (F.view finder.new) out.old out.new result (text_if (slice_index_or (hits_of searched (test_of (F.view finder.old)) (change_of text.now patch.now.change)) hunk false, slice_index_or (pieces text.now patch.now) hunk [])) }
 {
-    if !is_hit(alloc, text, &patch.change, hunk, finder)? {
+    if !is_hit(alloc, text, searched, &patch.change, hunk, finder)? {
         return Ok(());
     }
     Ok(put_hunk(text, patch, hunk, out)?)
@@ -48,6 +51,7 @@ fn put_if_hit<F: Finder, O: Sink>(
 fn put_parts<F: Finder, O: Sink>(
     alloc: Global,
     text: &[u8],
+    searched: Searched,
     patch: &FilePatch,
     first: u32,
     finder: &mut F,
@@ -56,15 +60,122 @@ fn put_parts<F: Finder, O: Sink>(
     requires kept { IsSome (F.view finder.old).kept }
     requires lawful { IsLawfulChange text.now patch.now.change }
     requires placed { IsPlaced text.now patch.now.span.start patch.now.first_verdict patch.now }
-    requires first { IsFirst (hits_of (test_of (F.view finder.old)) (change_of text.now patch.now.change)) (Some first) }
-    ensures { Finds O.view O.same_rest (F.view finder.old) (F.view finder.new) out.old out.new result (region text.now patch.now ++ chosen (hits_of (test_of (F.view finder.old)) (change_of text.now patch.now.change)) (pieces text.now patch.now)) }
+    requires first { IsFirst (hits_of searched (test_of (F.view finder.old)) (change_of text.now patch.now.change)) (Some first) }
+    ensures { Finds O.view O.same_rest (F.view finder.old) (F.view finder.new) out.old out.new result (region text.now patch.now ++ chosen (hits_of searched (test_of (F.view finder.old)) (change_of text.now patch.now.change)) (pieces text.now patch.now)) }
 {
     put_region(text, patch, out)?;
     put_hunk(text, patch, first, out)?;
     for hunk in first + 1..patch.hunks() {
-        put_if_hit(alloc, text, patch, hunk, finder, out)?;
+        put_if_hit(alloc, text, searched, patch, hunk, finder, out)?;
     }
     Ok(())
+}
+
+/// Whether a hunk, counted from 0, has a hit, where this is the first one that has.
+fn is_hit_behind<F: Finder>(
+    alloc: Global,
+    text: &[u8],
+    searched: Searched,
+    patch: &FilePatch,
+    first: u32,
+    hunk: u32,
+    finder: &mut F,
+) -> Result<bool, AllocError>
+    requires kept { IsSome (F.view finder.old).kept }
+    requires lawful { IsLawfulChange text.now patch.now.change }
+    requires within { hunk < row_count patch.now.change }
+    requires first { IsFirst (hits_of searched (test_of (F.view finder.old)) (change_of text.now patch.now.change)) (Some first) }
+    ensures asked { IsAsked (F.view finder.old) (F.view finder.new) }
+    ensures hit { IfOk result (λ b. b ≡ slice_index_or (hits_of searched (test_of (F.view finder.old)) (change_of text.now patch.now.change)) hunk false) }
+{
+    if hunk < first {
+        return Ok(false);
+    }
+    if hunk == first {
+        return Ok(true);
+    }
+    is_hit(alloc, text, searched, &patch.change, hunk, finder)
+}
+
+/// Writes a line if a hunk, counted from 0, has a hit, where this is the first one that has.
+fn put_line_if_hit<F: Finder, O: Sink>(
+    alloc: Global,
+    text: &[u8],
+    searched: Searched,
+    patch: &FilePatch,
+    first: u32,
+    hunk: u32,
+    line: &[u8],
+    finder: &mut F,
+    out: &mut O,
+) -> Result<(), GrepFault>
+    requires kept { IsSome (F.view finder.old).kept }
+    requires lawful { IsLawfulChange text.now patch.now.change }
+    requires within { hunk < row_count patch.now.change }
+    requires first { IsFirst (hits_of searched (test_of (F.view finder.old)) (change_of text.now patch.now.change)) (Some first) }
+    ensures { Finds O.view O.same_rest (F.view finder.old) (F.view finder.new) out.old out.new result (text_if (slice_index_or (hits_of searched (test_of (F.view finder.old)) (change_of text.now patch.now.change)) hunk false, line.now)) }
+{
+    if !is_hit_behind(alloc, text, searched, patch, first, hunk, finder)? {
+        return Ok(());
+    }
+    Ok(put_piece(out, line)?)
+}
+
+/// Writes the lines of the hunks that have a hit, of which this is the first.
+fn put_hit_lines<F: Finder, O: Sink>(
+    alloc: Global,
+    text: &[u8],
+    searched: Searched,
+    patch: &FilePatch,
+    first: u32,
+    finder: &mut F,
+    out: &mut O,
+) -> Result<(), GrepFault>
+    requires kept { IsSome (F.view finder.old).kept }
+    requires lawful { IsLawfulChange text.now patch.now.change }
+    requires placed { IsPlaced text.now patch.now.span.start patch.now.first_verdict patch.now }
+    requires first { IsFirst (hits_of searched (test_of (F.view finder.old)) (change_of text.now patch.now.change)) (Some first) }
+    ensures { Finds O.view O.same_rest (F.view finder.old) (F.view finder.new) out.old out.new result (chosen (hits_of searched (test_of (F.view finder.old)) (change_of text.now patch.now.change)) (hunk_lines text.now patch.now)) }
+{
+    let mut line = first_line(patch);
+    for hunk in 0..patch.hunks() {
+        let shown = hunk_line(line, u64::from(hunk) + 1);
+        put_line_if_hit(
+            alloc,
+            text,
+            searched,
+            patch,
+            first,
+            hunk,
+            shown.as_slice(),
+            finder,
+            out,
+        )?;
+        line += hunk_feeds(text, patch, hunk);
+    }
+    Ok(())
+}
+
+/// The same, where the lines of hunks are asked for.
+fn put_lines_if_asked<F: Finder, O: Sink>(
+    alloc: Global,
+    text: &[u8],
+    job: &GrepJob,
+    patch: &FilePatch,
+    first: u32,
+    finder: &mut F,
+    out: &mut O,
+) -> Result<(), GrepFault>
+    requires kept { IsSome (F.view finder.old).kept }
+    requires lawful { IsLawfulChange text.now patch.now.change }
+    requires placed { IsPlaced text.now patch.now.span.start patch.now.first_verdict patch.now }
+    requires first { IsFirst (hits_of job.now.searched (test_of (F.view finder.old)) (change_of text.now patch.now.change)) (Some first) }
+    ensures { Finds O.view O.same_rest (F.view finder.old) (F.view finder.new) out.old out.new result (text_if (job.now.shown.hunks, chosen (hits_of job.now.searched (test_of (F.view finder.old)) (change_of text.now patch.now.change)) (hunk_lines text.now patch.now))) }
+{
+    if !job.shown.hunks {
+        return Ok(());
+    }
+    put_hit_lines(alloc, text, job.searched, patch, first, finder, out)
 }
 
 /// Writes what is asked for of a file patch, counted from 0, whose first hunk with a hit is this.
@@ -79,15 +190,18 @@ fn put_found<F: Finder, O: Sink>(
 ) -> Result<(), GrepFault>
     requires kept { IsSome (F.view finder.old).kept }
     requires within { patch < length set.now.patches }
-    requires first { ForSome (patch_at set.now patch) (λ p. IsFirst (hits_of (test_of (F.view finder.old)) (change_of set.now.text p.change)) (Some first)) }
-    ensures { ForSome (patch_at set.now patch) (λ p. Finds O.view O.same_rest (F.view finder.old) (F.view finder.new) out.old out.new result (found_text (test_of (F.view finder.old)) job.now.output set.now.text p)) }
+    requires first { ForSome (patch_at set.now patch) (λ p. IsFirst (hits_of job.now.searched (test_of (F.view finder.old)) (change_of set.now.text p.change)) (Some first)) }
+    ensures { ForSome (patch_at set.now patch) (λ p. Finds O.view O.same_rest (F.view finder.old) (F.view finder.new) out.old out.new result (found_text (test_of (F.view finder.old)) job.now.output (plain_grep_job job.now) set.now.text p)) }
 {
     let text = set.text();
     let found = patch_at(set, patch);
     match job.output {
-        GrepOut::Names => Ok(put_line(out, set.plain_name(patch))?),
+        GrepOut::Names => {
+            put_name_line(&job.shown, found, set.plain_name(patch), out)?;
+            put_lines_if_asked(alloc, text, job, found, first, finder, out)
+        }
         GrepOut::Files => Ok(put_piece(out, bytes_at(text, found.span))?),
-        GrepOut::Hunks => put_parts(alloc, text, found, first, finder, out),
+        GrepOut::Hunks => put_parts(alloc, text, job.searched, found, first, finder, out),
     }
 }
 
@@ -107,7 +221,14 @@ fn put_if_found<F: Finder, O: Sink>(
     if !is_selected(&job.select, set.plain_name(patch)) {
         return Ok(());
     }
-    let Some(first) = first_hit(alloc, set.text(), patch_at(set, patch), finder)? else {
+    let Some(first) = first_hit(
+        alloc,
+        set.text(),
+        job.searched,
+        patch_at(set, patch),
+        finder,
+    )?
+    else {
         return Ok(());
     };
     put_found(alloc, set, job, patch, first, finder, out)
@@ -130,7 +251,7 @@ fn put_grepped<F: Finder, O: Sink>(
 }
 
 /// Writes what the job asks for of each file patch that is selected and of which a line of a hunk, without its mark and its
-/// line feed, has the pattern: its name, the lines in front of its first hunk and the hunks with such a line, or all of it.
+/// line feed, has the pattern: its line in a list, the lines in front of its first hunk and the hunks with such a line, or all of it.
 /// The finder is asked of no other file patch, of none behind the first hit where that settles it, and of no line twice.
 ///
 /// # Errors

@@ -1,5 +1,5 @@
 //! Laws of what is written.
-ghost use Rattle.std.specs.Prelude.{◌≡◌, List, map};
+ghost use Rattle.std.specs.Prelude.{◌≡◌, false, List, map};
 ghost use Rattle.file_patch.specs.PlainPatch.{PlainPatch};
 ghost use Rattle.patch_text.specs.Outlines.{outline};
 ghost use Rattle.tool_words.specs.PlainJobs.{PlainListJob};
@@ -13,6 +13,6 @@ pub fn filter_laws()
     ensures all { WritesAll }
     ensures none { WritesNone }
     ensures bare { WritesNoBare }
-    // A list needs no hunk but one that is alone.
-    ensures outlined { (j : PlainListJob) (ps : List PlainPatch) → listed j (map outline ps) ≡ listed j ps }
+    // A list needs no hunk but one that is alone, unless it counts a side without lines as absent.
+    ensures outlined { (j : PlainListJob) (ps : List PlainPatch) → j.shown.empty_absent ≡ false → listed j (map outline ps) ≡ listed j ps }
 {}

@@ -5,6 +5,7 @@
 mod fault;
 mod filter;
 mod grep;
+mod hunk_lines;
 mod hunks;
 mod laws;
 mod list;
@@ -16,5 +17,5 @@ pub use fault::GrepFault;
 pub use filter::filter_patches;
 pub use grep::grep_patches;
 pub use laws::filter_laws;
-pub use list::list_patches;
+pub use list::{asks_hunks, list_patches, list_whole};
 pub use regex_finder::RegexFinder;

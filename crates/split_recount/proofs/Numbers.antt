@@ -1,5 +1,5 @@
 -- Where the ranges of a hunk start, from the counts of its body.
-use Rattle.std.proofs.Common.{◌≡◌, ℕ, ◌+◌, true, false, not, ◌&&◌, ◌||◌, List, length, Option, None, Some, Result, Ok, Err, refl, sym, ap, ◌∙◌}
+use Rattle.std.proofs.Common.{◌≡◌, ℕ, ◌+◌, ◌-◌, true, false, ◌||◌, List, length, Option, None, Some, Result, Ok, Err, refl, sym, ap, ◌∙◌}
 use Rattle.std.specs.Prelude.{◌==◌, if◌then◌else◌}
 use Rattle.hunk_core.specs.declared.BadKind.{BadKind}
 use Rattle.hunk_core.specs.declared.BadKind.TheVariants as kinds
@@ -12,7 +12,7 @@ use Rattle.split_recount.specs.RangeLines.{line_with}
 use Rattle.split_recount.specs.Recounted.{unplaced, one_if_none, less, line_at, true_line}
 
 abbrev pub started : ℕ → ℕ → ℕ
-started start count = if start == 0 && not (count == 0) then 1 else start
+started first count = if count == 0 then first - 1 else first
 
 abbrev pub based : ℕ → ℕ → ℕ
 based start count = if count == 0 then start + 1 else start

@@ -1,15 +1,20 @@
 -- What a range line says that is believed, case by case.
-use Rattle.std.proofs.Common.{◌≡◌, ℕ, false, true, ◌||◌, List, [], ◌∷◌, None, Some, Ok, Err, refl, sym}
+use Rattle.std.proofs.Common.{◌≡◌, ℕ, false, true, ◌||◌, List, [], ◌∷◌, None, Some, Result, Ok, Err, refl, sym}
+use Rattle.hunk_core.specs.declared.BadKind.{BadKind}
 use Rattle.hunk_core.specs.declared.BadKind.TheVariants as kinds
 use Rattle.hunk_core.specs.Rules.{is_too_large}
 use Rattle.hunk_core.specs.LineTests.{after}
 use Rattle.unified_form.specs.Ranges.{range_at, is_bad_range}
 use Rattle.split_recount.specs.declared.ranges.Range.{Range}
-use Rattle.split_recount.specs.RangeLines.{range_parts, stated}
+use Rattle.split_recount.specs.RangeLines.{first_line, range_parts, stated}
 use Rattle.split_recount.specs.Walking.{both_ranges}
 
+-- a start, and what stands behind the ranges
+abbrev pub said : ℕ → List ℕ → Result (ℕ × List ℕ) BadKind
+said first rest = Ok (first, rest)
+
 module _ (line : List ℕ) (old new : Range) (rest : List ℕ) (is : range_parts line ≡ Some (both_ranges old new, rest)) where
-  pub stated-fits : false ≡ is_bad_range old.start old.count → false ≡ is_bad_range new.start new.count → false ≡ (is_too_large old.start old.count || is_too_large new.start new.count) → stated line ≡ Ok (old.start, rest)
+  pub stated-fits : false ≡ is_bad_range old.start old.count → false ≡ is_bad_range new.start new.count → false ≡ (is_too_large old.start old.count || is_too_large new.start new.count) → stated line ≡ Ok (first_line old.start old.count, rest)
   stated-fits e f g = rw (is, sym e, sym f, sym g) refl
 
   pub stated-large : false ≡ is_bad_range old.start old.count → false ≡ is_bad_range new.start new.count → true ≡ (is_too_large old.start old.count || is_too_large new.start new.count) → stated line ≡ Err kinds.NumberTooLarge

@@ -20,7 +20,7 @@ use Rattle.hunk_core.specs.Rules.{is_too_large}
 use Rattle.hunk_core.specs.OptionSteps.{◌>>=◌}
 use Rattle.hunk_core.proofs.OptionLemmas.{some_step}
 use Rattle.line_list.proofs.Pieces.{longer}
-use Rattle.split_recount.specs.RangeLines.{range_parts, stated_by, stated, line_with}
+use Rattle.split_recount.specs.RangeLines.{first_line, range_parts, stated_by, stated, line_with}
 
 -- ---- bytes in front
 shorter : (b : ℕ) (line : List ℕ) → b ≢ 10 → IsLine (b ∷ line) → IsLine line
@@ -121,7 +121,7 @@ said-of (Some p) said e =
           elim (chosen (is_too_large p.0.old_start p.0.old_count || is_too_large p.0.new_start p.0.new_count) _ _ (Ok said) good.1) [
             | inl large ↦ absurd (let is = large.1 in cc)
             | inr fits ↦ (
-                let found : ℕ × List ℕ = (p.0.old_start, p.1) in
+                let found : ℕ × List ℕ = (first_line p.0.old_start p.0.old_count, p.1) in
                 let same : found ≡ said = ok_is found said (Ok found) refl fits.1 in
                 (p.0, ap (λ (x : ℕ × List ℕ). Some (p.0, x.1)) same))
           ]

@@ -1,5 +1,5 @@
 -- Range lines whose counts aren't trusted: what they say, and how they are written with true ones.
-use Rattle.std.specs.Prelude.{ℕ, ◌||◌, List, [], ◌∷◌, ◌++◌, Option, None, Some, Result, Ok, Err, if◌then◌else◌}
+use Rattle.std.specs.Prelude.{ℕ, ◌+◌, ◌==◌, ◌||◌, List, [], ◌∷◌, ◌++◌, Option, None, Some, Result, Ok, Err, if◌then◌else◌}
 use Rattle.hunk_core.specs.LineTests.{after}
 use Rattle.hunk_core.specs.declared.BadKind.{BadKind}
 use Rattle.hunk_core.specs.declared.BadKind.TheVariants as kinds
@@ -20,12 +20,16 @@ range_parts line = do
   rest ← after (32 ∷ 64 ∷ 64 ∷ []) new.1
   Some (record { old_start = old.0.0; old_count = old.0.1; new_start = new.0.0; new_count = new.0.1 }, rest)
 
--- the old start, and what stands behind the ranges, unless a range is bad or a number too large
+-- the line at which a range begins; an empty one stands in front of it, behind its start
+abbrev pub first_line : ℕ → ℕ → ℕ
+first_line start count = if count == 0 then start + 1 else start
+
+-- the line at which the old range begins, and what stands behind the ranges, unless a range is bad or a number too large
 abbrev pub stated_by : Option (Ranges × List ℕ) → Result (ℕ × List ℕ) BadKind
 stated_by None = Err kinds.Range
 stated_by (Some p) = if is_bad_range p.0.old_start p.0.old_count || is_bad_range p.0.new_start p.0.new_count then Err kinds.Range
     else if is_too_large p.0.old_start p.0.old_count || is_too_large p.0.new_start p.0.new_count then Err kinds.NumberTooLarge
-    else Ok (p.0.old_start, p.1)
+    else Ok (first_line p.0.old_start p.0.old_count, p.1)
 
 -- what a range line says that is believed
 abbrev pub stated : List ℕ → Result (ℕ × List ℕ) BadKind

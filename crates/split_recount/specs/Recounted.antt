@@ -15,9 +15,9 @@ use Rattle.hunk_core.specs.Rules.{is_too_large}
 use Rattle.split_recount.specs.Bodies.{begins, ends_body, body_of, marked_lines, misplaced}
 use Rattle.split_recount.specs.RangeLines.{stated, line_with}
 
--- a hunk before its new start is known; its old lines don't start at 0
+-- a hunk before its new start is known, whose old lines begin at this line; where it has none, it starts at the one in front of that
 abbrev pub unplaced : ℕ → List Marked → PlainHunk
-unplaced start body = record { old_start = if start == 0 && not ((counts_of body).old == 0) then 1 else start; new_start = 0; body = body }
+unplaced first body = record { old_start = if (counts_of body).old == 0 then first - 1 else first; new_start = 0; body = body }
 
 -- one for an empty range
 abbrev pub one_if_none : ℕ → ℕ

@@ -1,12 +1,12 @@
 //! The range line of a hunk whose counts aren't trusted.
 
-ghost use Rattle.std.specs.Prelude.{◌≡◌, ◌<◌, ◌^◌, ◌++◌, ◌||◌, IfOk, OnOk, if◌then◌else◌};
+ghost use Rattle.std.specs.Prelude.{◌≡◌, ◌<◌, ◌≤◌, ◌^◌, ◌++◌, ◌||◌, IfOk, OnOk, if◌then◌else◌};
 ghost use Rattle.num_text.specs.Numbers.{decimal};
 ghost use Rattle.line_list.specs.Reader.{Reads};
 ghost use Rattle.unified_form.specs.Ranges.{range_at, is_bad_range};
 ghost use Rattle.hunk_core.specs.Rules.{is_too_large};
 ghost use Rattle.unified_form.specs.Canonical.{range_text};
-ghost use Rattle.split_recount.specs.RangeLines.{range_parts, stated};
+ghost use Rattle.split_recount.specs.RangeLines.{first_line, range_parts, stated};
 ghost use Rattle.split_recount.specs.Walking.{Says, both_ranges, written};
 
 use hunk_core::{BadKind, after_prefix};
@@ -84,10 +84,23 @@ pub fn are_large(old: Range, new: Range) -> bool
     is_large(old) || is_large(new)
 }
 
-/// The old start, and what stands behind the ranges of a line.
+/// The line at which a range begins; an empty one stands in front of it, behind its start.
+fn first_line(range: Range) -> u64
+    requires { range.start < 2 ^ 32 }
+    ensures is { result ≡ first_line range.start range.count }
+    ensures small { result ≤ 2 ^ 32 }
+{
+    if range.count == 0 {
+        range.start + 1
+    } else {
+        range.start
+    }
+}
+
+/// The line at which the old range begins, and what stands behind the ranges of a line.
 pub fn stated_by(line: &[u8]) -> Result<(u64, &[u8]), BadKind>
     ensures exact { Says (λ x. (x.0, x.1.now)) result (stated line.now) }
-    ensures small { IfOk result (λ x. x.0 < 2 ^ 32) }
+    ensures small { IfOk result (λ x. x.0 ≤ 2 ^ 32) }
 {
     let Some((old, new, rest)) = parts_of(line) else {
         return Err(BadKind::Range);
@@ -98,7 +111,7 @@ pub fn stated_by(line: &[u8]) -> Result<(u64, &[u8]), BadKind>
     if are_large(old, new) {
         return Err(BadKind::NumberTooLarge);
     }
-    Ok((old.start, rest))
+    Ok((first_line(old), rest))
 }
 
 fn put_count(out: &mut Vec<u8>, value: u64) -> Result<(), AllocError>

@@ -41,7 +41,7 @@ fn ranges_at(
     ensures { Gives (λ x. written x.0 x.1 x.2.now) result (recounted_line reached.number (left_of reached.earlier) (slice_range text.now reached.at end) (body_at text.now end)) }
 {
     let number = reached.number;
-    let (start, rest) = match stated_by(&text[reached.at..end]) {
+    let (first, rest) = match stated_by(&text[reached.at..end]) {
         Ok(stated) => stated,
         Err(kind) => return Err(bad(number, kind)),
     };
@@ -49,7 +49,7 @@ fn ranges_at(
         Ok(()) => {}
         Err(fault) => return Err(fault),
     }
-    match true_ranges(start, body.sides, reached.earlier) {
+    match true_ranges(first, body.sides, reached.earlier) {
         Ok((old, new)) => Ok((old, new, rest)),
         Err(kind) => Err(bad(number, kind)),
     }

@@ -18,13 +18,14 @@ put_found-requires-clause-kept g c = still-kept c.in_ok-first.ensures.asked c.re
 pub put_found-requires-clause-first : goal.put_found-requires-clause-first
 put_found-requires-clause-first g c = λ p is.
     let v = c.args.set.now in
+    let j = plain_grep_job c.args.job.now in
     let found = c.patch_at.result.now in
     let old = test_of (g.F.Finder.view c.args.finder.now) in
     let new = test_of (g.F.Finder.view c.first_hit.new.finder) in
     let same : found ≡ p = same_Some found p (sym c.patch_at.ensures.is ∙ is) in
-    let flags = hits_of old (change_of c.text.result.now found.change) in
-    let moved : flags ≡ hits_of new (change_of v.text p.change) =
-    hits-same old c.text.result.now v.text found p c.text.ensures same ∙ ap (λ hit. hits_of hit (change_of v.text p.change)) (sym (same-test c.in_ok-first.ensures.asked)) in
+    let flags = hits_of j.searched old (change_of c.text.result.now found.change) in
+    let moved : flags ≡ hits_of j.searched new (change_of v.text p.change) =
+    hits-same j.searched old c.text.result.now v.text found p c.text.ensures same ∙ ap (λ hit. hits_of j.searched hit (change_of v.text p.change)) (sym (same-test c.in_ok-first.ensures.asked)) in
     subst (λ fs. IsFirst fs (Some c.in-Some.first)) moved (subst (IsFirst flags) c.in-Some.is c.in_ok-first.ensures.first)
 
 pub returns-then-not-is_selected : goal.returns-then-not-is_selected
@@ -33,8 +34,8 @@ returns-then-not-is_selected g c = λ p is.
     let j = plain_grep_job c.args.job.now in
     let hit = test_of (g.F.Finder.view c.args.finder.now) in
     let left_out : is_found hit j (patch_of v.text p) ≡ false =
-    ap (λ b. b && list_any (λ is. is) (hits_of hit (change_of v.text p.change))) (sym (c.is_selected.ensures ∙ ap (is_selected j.select) (c.plain_name.ensures p is)) ∙ c.if-not-is_selected.true) in
-    if-unset (is_found hit j (patch_of v.text p)) (found_text hit j.output v.text p) left_out (finds-done tt (found-none g.met.O.Sink.rest_none (g.F.Finder.view c.args.finder.now) c.args.out.now))
+    ap (λ b. b && list_any (λ is. is) (hits_of j.searched hit (change_of v.text p.change))) (sym (c.is_selected.ensures ∙ ap (is_selected j.select) (c.plain_name.ensures p is)) ∙ c.if-not-is_selected.true) in
+    if-unset (is_found hit j (patch_of v.text p)) (found_text hit j.output j v.text p) left_out (finds-done tt (found-none g.met.O.Sink.rest_none (g.F.Finder.view c.args.finder.now) c.args.out.now))
 
 pub returns-in_err-first : goal.returns-in_err-first
 returns-in_err-first g c = λ p is.
@@ -48,13 +49,13 @@ returns-in_default g c = λ p is.
     let found = c.patch_at.result.now in
     let hit = test_of (g.F.Finder.view c.args.finder.now) in
     let same : found ≡ p = same_Some found p (sym c.patch_at.ensures.is ∙ is) in
-    let flags = hits_of hit (change_of c.text.result.now found.change) in
-    let moved = hits-same hit c.text.result.now v.text found p c.text.ensures same in
-    let no_hit : list_any (λ is. is) (hits_of hit (change_of v.text p.change)) ≡ false =
+    let flags = hits_of j.searched hit (change_of c.text.result.now found.change) in
+    let moved = hits-same j.searched hit c.text.result.now v.text found p c.text.ensures same in
+    let no_hit : list_any (λ is. is) (hits_of j.searched hit (change_of v.text p.change)) ≡ false =
     subst (λ fs. list_any (λ is. is) fs ≡ false) moved (subst (IsFirst flags) (c.in_default.is) c.in_ok-first.ensures.first) in
     let selected : is_selected j.select (plain_name (header_of v.text p.header)) ≡ true = sym (c.is_selected.ensures ∙ ap (is_selected j.select) (c.plain_name.ensures p is)) ∙ c.if-not-is_selected.false in
-    let left_out : is_found hit j (patch_of v.text p) ≡ false = ap (λ b. b && list_any (λ is. is) (hits_of hit (change_of v.text p.change))) selected ∙ no_hit in
-    if-unset (is_found hit j (patch_of v.text p)) (found_text hit j.output v.text p) left_out (finds-done tt (found-asked (found-none g.met.O.Sink.rest_none (g.F.Finder.view c.args.finder.now) c.args.out.now) c.in_ok-first.ensures.asked))
+    let left_out : is_found hit j (patch_of v.text p) ≡ false = ap (λ b. b && list_any (λ is. is) (hits_of j.searched hit (change_of v.text p.change))) selected ∙ no_hit in
+    if-unset (is_found hit j (patch_of v.text p)) (found_text hit j.output j v.text p) left_out (finds-done tt (found-asked (found-none g.met.O.Sink.rest_none (g.F.Finder.view c.args.finder.now) c.args.out.now) c.in_ok-first.ensures.asked))
 
 pub returns : goal.returns
 returns g c = λ p is.
@@ -63,15 +64,15 @@ returns g c = λ p is.
     let found = c.patch_at.result.now in
     let hit = test_of (g.F.Finder.view c.args.finder.now) in
     let same : found ≡ p = same_Some found p (sym c.patch_at.ensures.is ∙ is) in
-    let flags = hits_of hit (change_of c.text.result.now found.change) in
-    let moved = hits-same hit c.text.result.now v.text found p c.text.ensures same in
-    let some : list_any (λ is. is) (hits_of hit (change_of v.text p.change)) ≡ true =
+    let flags = hits_of j.searched hit (change_of c.text.result.now found.change) in
+    let moved = hits-same j.searched hit c.text.result.now v.text found p c.text.ensures same in
+    let some : list_any (λ is. is) (hits_of j.searched hit (change_of v.text p.change)) ≡ true =
     subst (λ fs. list_any (λ is. is) fs ≡ true) moved (first-some flags c.in-Some.first (subst (IsFirst flags) c.in-Some.is c.in_ok-first.ensures.first)) in
     let selected : is_selected j.select (plain_name (header_of v.text p.header)) ≡ true = sym (c.is_selected.ensures ∙ ap (is_selected j.select) (c.plain_name.ensures p is)) ∙ c.if-not-is_selected.false in
-    let taken : is_found hit j (patch_of v.text p) ≡ true = ap (λ b. b && list_any (λ is. is) (hits_of hit (change_of v.text p.change))) selected ∙ some in
-    if-set (is_found hit j (patch_of v.text p)) (found_text hit j.output v.text p) taken (finds-more c.put_found.result g.met.O.Sink.rest_both
+    let taken : is_found hit j (patch_of v.text p) ≡ true = ap (λ b. b && list_any (λ is. is) (hits_of j.searched hit (change_of v.text p.change))) selected ∙ some in
+    if-set (is_found hit j (patch_of v.text p)) (found_text hit j.output j v.text p) taken (finds-more c.put_found.result g.met.O.Sink.rest_both
     (found-asked (found-none g.met.O.Sink.rest_none (g.F.Finder.view c.args.finder.now) c.args.out.now) c.in_ok-first.ensures.asked)
-    (by-first (λ hit. found_text hit j.output v.text p) c.in_ok-first.ensures.asked (c.put_found.ensures p is)))
+    (by-first (λ hit. found_text hit j.output j v.text p) c.in_ok-first.ensures.asked (c.put_found.ensures p is)))
 
 pub first_hit-requires-clause-kept : goal.first_hit-requires-clause-kept
 first_hit-requires-clause-kept g c = c.requires.kept

@@ -9,25 +9,25 @@ use Rattle.patch_filters.proofs.grep.put_if_hit.Goals as goal
 
 pub returns-in_err-is_hit : goal.returns-in_err-is_hit
 returns-in_err-is_hit g c =
-    let flags = hits_of (test_of (g.F.Finder.view c.args.finder.now)) (change_of c.args.text.now c.args.patch.now.change) in
+    let flags = hits_of c.args.searched (test_of (g.F.Finder.view c.args.finder.now)) (change_of c.args.text.now c.args.patch.now.change) in
     ends-in c.from_residual.result Memory c.from_residual.ensures.1 (finds-memory (text_if (get_or flags c.args.hunk false, get_or (pieces c.args.text.now c.args.patch.now) c.args.hunk []))
     (found-asked (found-none g.met.O.Sink.rest_none (g.F.Finder.view c.args.finder.now) c.args.out.now) c.in_err-is_hit.ensures.asked))
 
 pub returns-then-not-branch : goal.returns-then-not-branch
 returns-then-not-branch g c =
-    let flags = hits_of (test_of (g.F.Finder.view c.args.finder.now)) (change_of c.args.text.now c.args.patch.now.change) in
+    let flags = hits_of c.args.searched (test_of (g.F.Finder.view c.args.finder.now)) (change_of c.args.text.now c.args.patch.now.change) in
     let none : get_or flags c.args.hunk false ≡ false = sym c.in_ok-is_hit.ensures.hit ∙ c.if-not-branch.true in
     if-unset (get_or flags c.args.hunk false) (get_or (pieces c.args.text.now c.args.patch.now) c.args.hunk []) none (finds-done tt (found-asked (found-none g.met.O.Sink.rest_none (g.F.Finder.view c.args.finder.now) c.args.out.now) c.in_ok-is_hit.ensures.asked))
 
 pub returns-in_err-put_hunk : goal.returns-in_err-put_hunk
 returns-in_err-put_hunk g c =
-    let flags = hits_of (test_of (g.F.Finder.view c.args.finder.now)) (change_of c.args.text.now c.args.patch.now.change) in
+    let flags = hits_of c.args.searched (test_of (g.F.Finder.view c.args.finder.now)) (change_of c.args.text.now c.args.patch.now.change) in
     let hit : get_or flags c.args.hunk false ≡ true = sym c.in_ok-is_hit.ensures.hit ∙ c.if-not-branch.false in
     if-set (get_or flags c.args.hunk false) (get_or (pieces c.args.text.now c.args.patch.now) c.args.hunk []) hit (ends-in c.from_residual-in_err-put_hunk.result Write c.from_residual-in_err-put_hunk.ensures.1 (finds-write c.in_err-put_hunk.field-0.0 c.in_ok-is_hit.ensures.asked c.in_err-put_hunk.ensures))
 
 pub returns : goal.returns
 returns g c =
-    let flags = hits_of (test_of (g.F.Finder.view c.args.finder.now)) (change_of c.args.text.now c.args.patch.now.change) in
+    let flags = hits_of c.args.searched (test_of (g.F.Finder.view c.args.finder.now)) (change_of c.args.text.now c.args.patch.now.change) in
     let hit : get_or flags c.args.hunk false ≡ true = sym c.in_ok-is_hit.ensures.hit ∙ c.if-not-branch.false in
     if-set (get_or flags c.args.hunk false) (get_or (pieces c.args.text.now c.args.patch.now) c.args.hunk []) hit (finds-put tt c.in_ok-is_hit.ensures.asked (has-put c.in_ok-put_hunk.field-0 c.in_ok-put_hunk.ensures))
 

@@ -15,7 +15,7 @@ use Rattle.patch_filters.proofs.grep.put_parts.Goals as goal
 pub returns-in_err-put_region : goal.returns-in_err-put_region
 returns-in_err-put_region g c =
     let v = g.F.Finder.view c.args.finder.now in
-    let rest = chosen (hits_of (test_of v) (change_of c.args.text.now c.args.patch.now.change)) (pieces c.args.text.now c.args.patch.now) in
+    let rest = chosen (hits_of c.args.searched (test_of v) (change_of c.args.text.now c.args.patch.now.change)) (pieces c.args.text.now c.args.patch.now) in
     ends-in c.from_residual.result Write c.from_residual.ensures.1 (finds-stop Write rest (finds-write {R = Unit {0}} c.in_err-put_region.field-0.0 (asked-none v) c.in_err-put_region.ensures))
 
 pub put_region-requires : goal.put_region-requires
@@ -26,8 +26,8 @@ put_hunk-requires-clause-within g c =
     let v = g.F.Finder.view c.args.finder.now in
     let text = c.args.text.now in
     let p = c.args.patch.now in
-    let flags = hits_of (test_of v) (change_of text p.change) in
-    let long = hits-long (test_of v) text p.change in
+    let flags = hits_of c.args.searched (test_of v) (change_of text p.change) in
+    let long = hits-long c.args.searched (test_of v) text p.change in
     let at = c.requires.placed in
     first-hunk flags text p at long c.args.first c.requires.first
 
@@ -36,8 +36,8 @@ loop-hunk-init g c =
     let v = g.F.Finder.view c.args.finder.now in
     let text = c.args.text.now in
     let p = c.args.patch.now in
-    let flags = hits_of (test_of v) (change_of text p.change) in
-    let long = hits-long (test_of v) text p.change in
+    let flags = hits_of c.args.searched (test_of v) (change_of text p.change) in
+    let long = hits-long c.args.searched (test_of v) text p.change in
     let at = c.requires.placed in
     record {
       finder = asked-none v;
@@ -56,15 +56,15 @@ loop-hunk-preserved g c =
     let v = g.F.Finder.view c.args.finder.now in
     let text = c.args.text.now in
     let p = c.args.patch.now in
-    let flags = hits_of (test_of v) (change_of text p.change) in
-    let long = hits-long (test_of v) text p.change in
+    let flags = hits_of c.args.searched (test_of v) (change_of text p.change) in
+    let long = hits-long c.args.searched (test_of v) text p.change in
     let at = c.requires.placed in
     let i = c.loop-hunk.hunk in
     let piece = get_or (pieces text p) i [] in
     let lt : i < row_count p.change = omega (arith, c.loop-hunk-test.true, c.hunks-hunk-end.ensures text, rows-counted text p.change) in
     let xs = rows flags text p (row_count p.change) at.each long in
     let within : i < length xs = omega (arith, lt, rows-long flags text p (row_count p.change) at.each long) in
-    let put = by-first (λ hit. text_if (get_or (hits_of hit (change_of text p.change)) i false, piece)) c.loop-hunk.invariant.finder c.in_ok-put_if_hit.ensures in
+    let put = by-first (λ hit. text_if (get_or (hits_of c.args.searched hit (change_of text p.change)) i false, piece)) c.loop-hunk.invariant.finder c.in_ok-put_if_hit.ensures in
     found-goes-on text_if xs g.met.O.Sink.rest_both (region text p) i (get_or flags i false, piece) c.in_ok-put_if_hit.field-0 within (row-at flags text p (row_count p.change) at.each long i lt) c.loop-hunk.invariant put
 
 pub returns-in_err-put_hunk : goal.returns-in_err-put_hunk
@@ -72,8 +72,8 @@ returns-in_err-put_hunk g c =
     let v = g.F.Finder.view c.args.finder.now in
     let text = c.args.text.now in
     let p = c.args.patch.now in
-    let flags = hits_of (test_of v) (change_of text p.change) in
-    let long = hits-long (test_of v) text p.change in
+    let flags = hits_of c.args.searched (test_of v) (change_of text p.change) in
+    let long = hits-long c.args.searched (test_of v) text p.change in
     let at = c.requires.placed in
     let rest = flat_map text_if (drop (c.args.first + 1) (rows flags text p (row_count p.change) at.each long)) in
     ends-in c.from_residual-in_err-put_hunk.result Write c.from_residual-in_err-put_hunk.ensures.1
@@ -86,15 +86,15 @@ returns-in_err-put_if_hit g c =
     let v = g.F.Finder.view c.args.finder.now in
     let text = c.args.text.now in
     let p = c.args.patch.now in
-    let flags = hits_of (test_of v) (change_of text p.change) in
-    let long = hits-long (test_of v) text p.change in
+    let flags = hits_of c.args.searched (test_of v) (change_of text p.change) in
+    let long = hits-long c.args.searched (test_of v) text p.change in
     let at = c.requires.placed in
     let i = c.loop-hunk.hunk in
     let piece = get_or (pieces text p) i [] in
     let lt : i < row_count p.change = omega (arith, c.loop-hunk-test.true, c.hunks-hunk-end.ensures text, rows-counted text p.change) in
     let xs = rows flags text p (row_count p.change) at.each long in
     let within : i < length xs = omega (arith, lt, rows-long flags text p (row_count p.change) at.each long) in
-    let put = by-first (λ hit. text_if (get_or (hits_of hit (change_of text p.change)) i false, piece)) c.loop-hunk.invariant.finder c.in_err-put_if_hit.ensures in
+    let put = by-first (λ hit. text_if (get_or (hits_of c.args.searched hit (change_of text p.change)) i false, piece)) c.loop-hunk.invariant.finder c.in_err-put_if_hit.ensures in
     ends-in c.from_residual-in_err-put_if_hit.result c.in_err-put_if_hit.field-0.0 c.from_residual-in_err-put_if_hit.ensures.1
     (found-stops text_if xs g.met.O.Sink.rest_both (region text p) i (get_or flags i false, piece) c.in_err-put_if_hit.field-0.0 within (row-at flags text p (row_count p.change) at.each long i lt) c.loop-hunk.invariant put)
 
@@ -103,8 +103,8 @@ returns g c =
     let v = g.F.Finder.view c.args.finder.now in
     let text = c.args.text.now in
     let p = c.args.patch.now in
-    let flags = hits_of (test_of v) (change_of text p.change) in
-    let long = hits-long (test_of v) text p.change in
+    let flags = hits_of c.args.searched (test_of v) (change_of text p.change) in
+    let long = hits-long c.args.searched (test_of v) text p.change in
     let at = c.requires.placed in
     let xs = rows flags text p (row_count p.change) at.each long in
     let first = first-hunk flags text p at long c.args.first c.requires.first in
@@ -125,8 +125,8 @@ overflow_step-hunk g c =
     let v = g.F.Finder.view c.args.finder.now in
     let text = c.args.text.now in
     let p = c.args.patch.now in
-    let flags = hits_of (test_of v) (change_of text p.change) in
-    omega (arith, first-hunk flags text p c.requires.placed (hits-long (test_of v) text p.change) c.args.first c.requires.first, few-rows text p.change c.requires.lawful)
+    let flags = hits_of c.args.searched (test_of v) (change_of text p.change) in
+    omega (arith, first-hunk flags text p c.requires.placed (hits-long c.args.searched (test_of v) text p.change) c.args.first c.requires.first, few-rows text p.change c.requires.lawful)
 
 pub hunks-hunk-end-requires : goal.hunks-hunk-end-requires
 hunks-hunk-end-requires g c = few-rows c.args.text.now c.args.patch.now.change c.requires.lawful

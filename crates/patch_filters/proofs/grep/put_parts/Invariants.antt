@@ -8,4 +8,4 @@ use Rattle.outside.proofs.Loops.{up_to}
 use Rattle.patch_filters.proofs.grep.put_parts.Given as goal
 
 abbrev pub invariant-loop-hunk : goal.invariant-loop-hunk
-invariant-loop-hunk g l = HasFound g.O.Sink.view g.O.Sink.same_rest (g.F.Finder.view l.fn.finder) (g.F.Finder.view l.finder) l.fn.out l.out (region l.text l.patch ++ up_to text_if (zip (hits_of (test_of (g.F.Finder.view l.fn.finder)) (change_of l.text l.patch.change)) (pieces l.text l.patch)) l.hunk)
+invariant-loop-hunk g l = HasFound g.O.Sink.view g.O.Sink.same_rest (g.F.Finder.view l.fn.finder) (g.F.Finder.view l.finder) l.fn.out l.out (region l.text l.patch ++ up_to text_if (zip (hits_of l.searched (test_of (g.F.Finder.view l.fn.finder)) (change_of l.text l.patch.change)) (pieces l.text l.patch)) l.hunk)

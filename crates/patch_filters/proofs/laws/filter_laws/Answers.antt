@@ -12,4 +12,4 @@ pub returns-clause-bare : goal.returns-clause-bare
 returns-clause-bare c = writes-no-bare
 
 pub returns-clause-outlined : goal.returns-clause-outlined
-returns-clause-outlined c = outlines-listed
+returns-clause-outlined c j ps none = outlines-listed j none ps

@@ -14,9 +14,9 @@ returns-then-branch-clause-first g c =
     let p = c.args.patch.now in
     let i = c.loop-hunk.hunk in
     let mid = test_of (g.F.Finder.view c.loop-hunk.finder) in
-    let flags = hits_of mid (change_of text p.change) in
-    let lt : i < length flags = omega (arith, c.loop-hunk-test.true, c.hunks-hunk-end.ensures text, rows-counted text p.change, hits-long mid text p.change) in
-    (c.loop-hunk.invariant.none, flag-of (λ hit. hits_of hit (change_of text p.change)) i c.loop-hunk.invariant (slice_get-get_or flags i false lt ∙ ap (λ b. Some b) (sym c.in_ok-is_hit.ensures.hit ∙ c.if-branch.true)))
+    let flags = hits_of c.args.searched mid (change_of text p.change) in
+    let lt : i < length flags = omega (arith, c.loop-hunk-test.true, c.hunks-hunk-end.ensures text, rows-counted text p.change, hits-long c.args.searched mid text p.change) in
+    (c.loop-hunk.invariant.none, flag-of (λ hit. hits_of c.args.searched hit (change_of text p.change)) i c.loop-hunk.invariant (slice_get-get_or flags i false lt ∙ ap (λ b. Some b) (sym c.in_ok-is_hit.ensures.hit ∙ c.if-branch.true)))
 
 pub returns-then-branch-clause-asked : goal.returns-then-branch-clause-asked
 returns-then-branch-clause-asked g c = asked-both c.loop-hunk.invariant.asked c.in_ok-is_hit.ensures.asked
@@ -27,9 +27,9 @@ loop-hunk-preserved g c =
     let p = c.args.patch.now in
     let i = c.loop-hunk.hunk in
     let mid = test_of (g.F.Finder.view c.loop-hunk.finder) in
-    let flags = hits_of mid (change_of text p.change) in
-    let lt : i < length flags = omega (arith, c.loop-hunk-test.true, c.hunks-hunk-end.ensures text, rows-counted text p.change, hits-long mid text p.change) in
-    none-more (λ hit. hits_of hit (change_of text p.change)) i c.loop-hunk.invariant c.in_ok-is_hit.ensures.asked (slice_get-get_or flags i false lt ∙ ap (λ b. Some b) (sym c.in_ok-is_hit.ensures.hit ∙ c.if-branch.false))
+    let flags = hits_of c.args.searched mid (change_of text p.change) in
+    let lt : i < length flags = omega (arith, c.loop-hunk-test.true, c.hunks-hunk-end.ensures text, rows-counted text p.change, hits-long c.args.searched mid text p.change) in
+    none-more (λ hit. hits_of c.args.searched hit (change_of text p.change)) i c.loop-hunk.invariant c.in_ok-is_hit.ensures.asked (slice_get-get_or flags i false lt ∙ ap (λ b. Some b) (sym c.in_ok-is_hit.ensures.hit ∙ c.if-branch.false))
 
 pub returns-in_err-is_hit-clause-first : goal.returns-in_err-is_hit-clause-first
 returns-in_err-is_hit-clause-first g c = if_ok_none _ _ c.from_residual.result c.from_residual.ensures.1
@@ -42,8 +42,8 @@ returns-clause-first g c =
     let text = c.args.text.now in
     let p = c.args.patch.now in
     let hit = test_of (g.F.Finder.view c.args.finder.now) in
-    none-there (λ hit. hits_of hit (change_of text p.change)) c.loop-hunk.hunk c.loop-hunk.invariant
-    (omega (arith, c.loop-hunk-test.false, c.loop-hunk.auto.hunk-end, c.hunks-hunk-end.ensures text, rows-counted text p.change, hits-long hit text p.change))
+    none-there (λ hit. hits_of c.args.searched hit (change_of text p.change)) c.loop-hunk.hunk c.loop-hunk.invariant
+    (omega (arith, c.loop-hunk-test.false, c.loop-hunk.auto.hunk-end, c.hunks-hunk-end.ensures text, rows-counted text p.change, hits-long c.args.searched hit text p.change))
 
 pub returns-clause-asked : goal.returns-clause-asked
 returns-clause-asked g c = c.loop-hunk.invariant.asked

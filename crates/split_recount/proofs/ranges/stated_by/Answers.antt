@@ -1,6 +1,6 @@
-use Rattle.std.proofs.Common.{sym}
+use Rattle.std.proofs.Common.{ℕ, sym, ap, ◌∙◌}
 use Rattle.split_recount.proofs.Bounds.{start-small}
-use Rattle.split_recount.proofs.Stated.{stated-fits, stated-large}
+use Rattle.split_recount.proofs.Stated.{said, stated-fits, stated-large}
 use Rattle.split_recount.proofs.ranges.stated_by.Goals as goal
 
 pub returns-in_default-clause-small : goal.returns-in_default-clause-small
@@ -17,6 +17,9 @@ returns-then-are_large c = record {
 
 pub returns : goal.returns
 returns c = record {
-  exact = stated-fits c.args.line.now c.in-Some.old c.in-Some.new c.in-Some.rest.now c.in-Some.ensures c.if-is_bad.ensures c.if-is_bad-2.ensures c.if-are_large.ensures;
-  small = start-small c.in-Some.old.start c.in-Some.old.count c.in-Some.new.start c.in-Some.new.count (sym c.if-are_large.ensures);
+  exact = stated-fits c.args.line.now c.in-Some.old c.in-Some.new c.in-Some.rest.now c.in-Some.ensures c.if-is_bad.ensures c.if-is_bad-2.ensures c.if-are_large.ensures ∙ ap (λ (n : ℕ). said n c.in-Some.rest.now) (sym c.first_line.ensures.is);
+  small = c.first_line.ensures.small;
 }
+
+pub first_line-requires : goal.first_line-requires
+first_line-requires c = start-small c.in-Some.old.start c.in-Some.old.count c.in-Some.new.start c.in-Some.new.count (sym c.if-are_large.ensures)

@@ -41,8 +41,8 @@ check_body-requires-clause-small c = reached-small c.requires.reached c.requires
 pub check_body-requires-clause-measured : goal.check_body-requires-clause-measured
 check_body-requires-clause-measured c = c.requires.body
 
-pub true_ranges-requires-clause-start : goal.true_ranges-requires-clause-start
-true_ranges-requires-clause-start c = c.in-Ok.ensures.small
+pub true_ranges-requires-clause-first : goal.true_ranges-requires-clause-first
+true_ranges-requires-clause-first c = c.in-Ok.ensures.small
 
 pub true_ranges-requires-clause-earlier : goal.true_ranges-requires-clause-earlier
 true_ranges-requires-clause-earlier c = earlier-small c.requires.short c.requires.reached
