@@ -79,7 +79,7 @@ tell("renamed-already", {b"g": b"a\n"}, git(b"g", b"similarity index 100%\nrenam
 tell("git-links", {}, git(b"l", b"new file mode 120000\n--- /dev/null\n+++ b/l\n@@ -0,0 +1 @@\n+f\n\\ No newline at end of file\n"), "-p1")
 tell("in-the-way", {b"f/x": b"a\n"}, MADE)
 tell("links-on-the-way", {b"d": Entry("dir"), b"d/f": Entry(data=b"a\n"), b"l": Entry("link", b"d")}, ONE.replace(b" f\n", b" l/f\n"))
-tell("long-lines", {b"f": b"a\n" + b"x" * 70000 + b"\n"}, ONE)
+tell("long-lines", {b"f": b"a\n" + b"x" * 1_100_000 + b"\n"}, ONE)
 tell("output-several", {b"f": b"a\n", b"g": b"a\n"}, ONE + OTHER, "-p0", "-o", "o")
 tell("directories-made", {b"f": b"a\n"}, ONE, "-p0", "-o", "d/o")
 tell("output-empty", {b"f": b"a\n"}, b"", "-o", "o", "f")

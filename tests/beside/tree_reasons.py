@@ -5,7 +5,7 @@ from case import Reasons
 from seen import about, above, file_patches, hunks_of, names_of, of, original, refused, stop, texts_of, unreached, with_status
 
 REASONS = Reasons()
-BUFFER = 65_532  # with the line feed
+BUFFER = 1_048_572  # with the line feed
 
 
 def obstacles(case):
@@ -51,7 +51,7 @@ def links_on_the_way(case, gnu, ours, differences):
 
 @REASONS.of("long-lines")
 def long_lines(case, gnu, ours, differences):
-    """A line above 65,532 bytes ends the run."""
+    """A line above 1,048,572 bytes ends the run."""
     texts = [texts_of(case), *(entry.data for entry in case.tree.values())]
     if not any(len(line) >= BUFFER for text in texts for line in text.split(b"\n")) or stop(gnu, ours) != "ours":
         return []

@@ -1,5 +1,5 @@
 -- What is written of a set is told by its text.
-use Rattle.std.proofs.Common.{◌≡◌, ℕ, ◌+◌, Bool, cond, List, [], ◌∷◌, ◌++◌, length, map, refl, sym, ap, subst, ◌∙◌}
+use Rattle.std.proofs.Common.{◌≡◌, ℕ, ◌+◌, Bool, true, false, ◌||◌, cond, List, [], ◌∷◌, ◌++◌, length, map, refl, sym, ap, subst, ◌∙◌}
 use Rattle.std.specs.Prelude.{filter, if◌then◌else◌}
 use Rattle.std.specs.List.{flat_map, list_any, range_with_len, zip}
 use Rattle.std.proofs.lemmas.List.Concat.{flat_map-cons}
@@ -19,16 +19,18 @@ use Rattle.filter_choice.specs.Outlined.{OutlineView, outlined}
 use Rattle.patch_set.specs.Spans.{IsPlaced, ArePlaced}
 use Rattle.patch_set.proofs.InBytes.{cut-bytes}
 use Rattle.patch_filters.specs.Digested.{digest_if_taken, digest_written, filtered_digest, olds_by}
-use Rattle.patch_filters.specs.Filtered.{chosen, filtered, pieces, region, written, written_bare, written_if_taken, is_taken_of}
+use Rattle.patch_filters.specs.Filtered.{chosen, filtered, pieces, region, text_if, written, written_bare, written_if_taken, is_taken_of}
 use Rattle.patch_filters.specs.Grepped.{found_text, grepped, hits_of, is_found}
 use Rattle.filter_choice.specs.Kept.{is_kept, is_taken, kept}
-use Rattle.patch_filters.specs.Listed.{listed}
+use Rattle.line_list.specs.Completed.{completed}
+use Rattle.patch_filters.specs.HunkLines.{first_line, hunk_lines, lines_from}
+use Rattle.patch_filters.specs.Listed.{asks_hunks, is_listed, lines_if_selected, list_lines, listed, listed_whole, name_line}
 use Rattle.filter_choice.specs.OldLines.{old_of_each}
 use Rattle.filter_choice.specs.Selected.{numbered}
 use Rattle.patch_filters.proofs.Digesting.{filtered-digest-is, olds-same}
 use Rattle.patch_filters.proofs.Outlined.{outlines-listed}
 use Rattle.filter_choice.proofs.Rows.{flat-if}
-use Rattle.patch_filters.proofs.Rows.{filtered-is}
+use Rattle.patch_filters.proofs.Rows.{filtered-is, listed-whole-is}
 use Rattle.format_convert.specs.Taken.{left_patches}
 use Rattle.format_convert.specs.Converted.{converted, written_if}
 use Rattle.format_convert.specs.Refusals.{refusal as form_refusal}
@@ -39,16 +41,24 @@ use Rattle.tool_words.specs.declared.jobs.GrepOut.TheVariants.{Names, Hunks, Fil
 use Rattle.whole_filters.specs.Opened.{IsOutlineOf}
 use Rattle.filter_cli.specs.Converting.{converted_in, form_refused, spot_converted}
 use Rattle.whole_filters.specs.Texts.{defaults, read_patches, patches_in, regions_in, Spot, spots_in}
-use Rattle.filter_cli.specs.Texts.{spot_written, is_spot_taken, filtered_in, spot_found, grepped_in}
+use Rattle.filter_cli.specs.Texts.{listed_in, spot_lines, spot_listed, spot_written, is_spot_taken, filtered_in, spot_found, grepped_in}
 use Rattle.whole_filters.proofs.ByText.{spot, patches-by, spots-by}
 
 -- ---- a list
 
-pub listed-by : (j : PlainListJob) (skip : Bool) (text : List ℕ) (v : OutlineView) → IsOutlineOf skip text v → listed j (outlined v) ≡ listed j (patches_in skip text)
-listed-by j skip text v read =
-    let ways = ways_of (defaults skip) in
+empty-unasked : (hunks empty : Bool) → (hunks || empty) ≡ false → empty ≡ false
+empty-unasked true empty none = cc
+empty-unasked false empty none = none
+
+pub listed-by : (j : PlainListJob) (text : List ℕ) (v : OutlineView) → asks_hunks j.shown ≡ false → IsOutlineOf j.select.skip_binary text v → listed j (outlined v) ≡ listed_in j text
+unfolding listed_in
+listed-by j text v unasked read =
+    let ways = ways_of (defaults j.select.skip_binary) in
     let a = bind_ok (patches_of ways v.text) outlined_all (outlined v) read.patches in
-    ap (listed j) (sym (ok_is _ _ a.2)) ∙ outlines-listed j a.0 ∙ ap (listed j) (sym (ap read_patches (ap (patches_of ways) (sym read.text) ∙ a.1)))
+    ap (listed j) (sym (ok_is _ _ a.2))
+    ∙ outlines-listed j (empty-unasked j.shown.hunks j.shown.empty_absent unasked) a.0
+    ∙ ap (listed j) (sym (ap read_patches (ap (patches_of ways) (sym read.text) ∙ a.1)))
+    ∙ sym (ap (λ b. if b then flat_map (spot_listed j (completed text)) (filter (λ s. is_listed j s.1) (spots_in j.select.skip_binary text)) else listed j (patches_in j.select.skip_binary text)) unasked)
 
 -- ---- lists side by side
 
@@ -84,12 +94,29 @@ module _ (text : List ℕ) (start before : ℕ) (p : FilePatch) (at : IsPlaced t
   written-same j = ap (λ (ts : List (List ℕ)). if p.header.bare then written_bare j text p else (if list_any (λ is. is) (kept j (change_of text p.change)) then region text p ++ chosen (kept j (change_of text p.change)) ts else []))
       (cut-bytes text p.header p.hunk_spans.items p.span.end at.cut)
 
-  found-same : (hit : List ℕ → Bool) (out : GrepOut) → found_text hit out text p ≡ spot_found hit out text (spot text p)
-  found-same hit Names = refl
-  found-same hit Hunks = ap (λ (ts : List (List ℕ)). region text p ++ chosen (hits_of hit (change_of text p.change)) ts) (cut-bytes text p.header p.hunk_spans.items p.span.end at.cut)
-  found-same hit Files = refl
+  lines-same : hunk_lines text p ≡ spot_lines text (spot text p)
+  lines-same = ap (lines_from (first_line p.header.form p.header.opening) 1) (cut-bytes text p.header p.hunk_spans.items p.span.end at.cut)
+
+  list-same : (j : PlainListJob) → list_lines j text p ≡ spot_listed j text (spot text p)
+  list-same j = ap (λ (ls : List (List ℕ)). name_line j.shown (patch_of text p) ++ text_if (j.shown.hunks, flat_map (λ line. line) ls)) lines-same
+
+  found-same : (hit : List ℕ → Bool) (out : GrepOut) (j : PlainGrepJob) → found_text hit out j text p ≡ spot_found hit out j text (spot text p)
+  found-same hit Names j = ap (λ (ls : List (List ℕ)). name_line j.shown (patch_of text p) ++ text_if (j.shown.hunks, chosen (hits_of j.searched hit (change_of text p.change)) ls)) lines-same
+  found-same hit Hunks j = ap (λ (ts : List (List ℕ)). region text p ++ chosen (hits_of j.searched hit (change_of text p.change)) ts) (cut-bytes text p.header p.hunk_spans.items p.span.end at.cut)
+  found-same hit Files j = refl
 
 -- ---- what each filter writes of it
+
+pub whole-by : (j : PlainListJob) (text : List ℕ) (v : SetView) → asks_hunks j.shown ≡ true → IsRead (defaults j.select.skip_binary) text v → listed_whole j v ≡ listed_in j text
+unfolding listed_in
+whole-by j text v asked read =
+    listed-whole-is j v
+    ∙ all-same v.text (lines_if_selected j v.text) (λ s. cond (is_listed j s.1) (spot_listed j v.text s) [])
+    (λ start before p at. ap (λ (t : List ℕ). cond (is_listed j (patch_of v.text p)) t []) (list-same v.text start before p at j)) 0 0 v.patches read.spans
+    ∙ sym (flat-if (λ (s : Spot). is_listed j s.1) (spot_listed j v.text) (map (spot v.text) v.patches))
+    ∙ ap (λ (ss : List Spot). flat_map (spot_listed j v.text) (filter (λ s. is_listed j s.1) ss)) (sym (spots-by j.select.skip_binary text v read))
+    ∙ ap (λ (t : List ℕ). flat_map (spot_listed j t) (filter (λ s. is_listed j s.1) (spots_in j.select.skip_binary text))) read.text
+    ∙ sym (ap (λ b. if b then flat_map (spot_listed j (completed text)) (filter (λ s. is_listed j s.1) (spots_in j.select.skip_binary text)) else listed j (patches_in j.select.skip_binary text)) asked)
 
 pub filtered-by : (j : PlainFilterJob) (text : List ℕ) (v : SetView) → IsRead (defaults j.select.skip_binary) text v → filtered j v ≡ filtered_in j text
 unfolding filtered_in
@@ -157,12 +184,12 @@ digested-by j text v read =
 pub grepped-by : (hit : List ℕ → Bool) (j : PlainGrepJob) (text : List ℕ) (v : SetView) → IsRead (defaults j.select.skip_binary) text v → grepped hit j v ≡ grepped_in hit j text
 unfolding grepped grepped_in
 grepped-by hit j text v read =
-    flat-if (λ p. is_found hit j (patch_of v.text p)) (found_text hit j.output v.text) v.patches
-    ∙ all-same v.text (λ p. cond (is_found hit j (patch_of v.text p)) (found_text hit j.output v.text p) []) (λ s. cond (is_found hit j s.1) (spot_found hit j.output v.text s) [])
-    (λ start before p at. ap (λ (t : List ℕ). cond (is_found hit j (patch_of v.text p)) t []) (found-same v.text start before p at hit j.output)) 0 0 v.patches read.spans
-    ∙ sym (flat-if (λ (s : Spot). is_found hit j s.1) (spot_found hit j.output v.text) (map (spot v.text) v.patches))
-    ∙ ap (λ (ss : List Spot). flat_map (spot_found hit j.output v.text) (filter (λ s. is_found hit j s.1) ss)) (sym (spots-by j.select.skip_binary text v read))
-    ∙ ap (λ (t : List ℕ). flat_map (spot_found hit j.output t) (filter (λ s. is_found hit j s.1) (spots_in j.select.skip_binary text))) read.text
+    flat-if (λ p. is_found hit j (patch_of v.text p)) (found_text hit j.output j v.text) v.patches
+    ∙ all-same v.text (λ p. cond (is_found hit j (patch_of v.text p)) (found_text hit j.output j v.text p) []) (λ s. cond (is_found hit j s.1) (spot_found hit j.output j v.text s) [])
+    (λ start before p at. ap (λ (t : List ℕ). cond (is_found hit j (patch_of v.text p)) t []) (found-same v.text start before p at hit j.output j)) 0 0 v.patches read.spans
+    ∙ sym (flat-if (λ (s : Spot). is_found hit j s.1) (spot_found hit j.output j v.text) (map (spot v.text) v.patches))
+    ∙ ap (λ (ss : List Spot). flat_map (spot_found hit j.output j v.text) (filter (λ s. is_found hit j s.1) ss)) (sym (spots-by j.select.skip_binary text v read))
+    ∙ ap (λ (t : List ℕ). flat_map (spot_found hit j.output j t) (filter (λ s. is_found hit j s.1) (spots_in j.select.skip_binary text))) read.text
 
 pub form-by : (form : Form) (j : PlainFilterJob) (text : List ℕ) (v : SetView) → IsRead (defaults j.select.skip_binary) text v → form_refusal form (left_patches j (plain_patches v)) ≡ form_refused form j text
 form-by form j text v read = ap (λ (ps : List PlainPatch). form_refusal form (left_patches j ps)) (sym (patches-by j.select.skip_binary text v read))

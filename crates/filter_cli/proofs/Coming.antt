@@ -1,5 +1,5 @@
 -- From a set that is read to what a filter comes to.
-use Rattle.std.proofs.Common.{◌≡◌, ◌≢◌, ℕ, Bool, List, [], ◌∷◌, map, Option, None, Some, Result, Ok, Err, refl, sym, ap, ◌∙◌}
+use Rattle.std.proofs.Common.{◌≡◌, ◌≢◌, ℕ, Bool, true, false, List, [], ◌∷◌, map, Option, None, Some, Result, Ok, Err, refl, sym, ap, ◌∙◌}
 use Rattle.outside.specs.Files.{Files}
 use Rattle.file_patch.specs.declared.FilePatch.{FilePatch}
 use Rattle.file_patch.specs.PlainPatch.{patch_of}
@@ -10,17 +10,17 @@ use Rattle.patch_set.specs.declared.fault.SetFault.TheVariants.{Malformed, Garba
 use Rattle.patch_set.specs.Refusals.{refusal}
 use Rattle.patch_set.specs.SetView.{SetView, IsRead}
 use Rattle.filter_choice.specs.Outlined.{outlined}
-use Rattle.patch_filters.specs.Listed.{listed}
+use Rattle.patch_filters.specs.Listed.{asks_hunks, listed, listed_whole}
 use Rattle.patch_filters.specs.Digested.{filtered_digest}
 use Rattle.patch_filters.specs.Grepped.{grepped}
 use Rattle.whole_filters.specs.Texts.{defaults, patches_in}
-use Rattle.filter_cli.specs.Texts.{filtered_in, grepped_in}
+use Rattle.filter_cli.specs.Texts.{filtered_in, grepped_in, listed_in}
 use Rattle.whole_filters.specs.Outcomes.{Outcome, given}
 use Rattle.filter_cli.specs.Outcomes.{unless_refused, outcome_by, list_with, filter_with, grep_with, list_outcome, filter_outcome, grep_outcome}
 use Rattle.whole_filters.specs.declared.fault.FilterFault.TheVariants as faults
 use Rattle.whole_filters.specs.Opened.{IsDigestIn, IsOutlineOf, IsSet}
 use Rattle.whole_filters.proofs.ByText.{patches-by}
-use Rattle.filter_cli.proofs.ByText.{listed-by, digested-by, grepped-by}
+use Rattle.filter_cli.proofs.ByText.{listed-by, whole-by, digested-by, grepped-by}
 
 -- the bytes that are written of what is read from the text, unless that is refused
 abbrev pub ComesBy : {V : Type 0} → (Bool → List ℕ → V → Type 0) → Bool → Option SetFault → (V → List ℕ) → List ℕ → Outcome → Type 0
@@ -51,10 +51,15 @@ module _ {V : Type 0} (Is : Bool → List ℕ → V → Type 0) (written : Plain
   comes-is (Ok (text, s)) o h = by-refusal (refusal (defaults s.skip_binary) text) s text o h
   comes-is (Err fault) o h = h
 
-pub listed-is : (j : PlainListJob) (f : Files) (left : List ℕ) (o : Outcome) → Comes IsOutlineOf (λ s v. listed (list_with j s) (outlined v)) (given j.input j.select f left) o → o ≡ list_outcome j f left
+pub listed-is : (j : PlainListJob) → asks_hunks j.shown ≡ false → (f : Files) (left : List ℕ) (o : Outcome) → Comes IsOutlineOf (λ s v. listed (list_with j s) (outlined v)) (given j.input j.select f left) o → o ≡ list_outcome j f left
 unfolding list_outcome
-listed-is j f left = comes-is IsOutlineOf (λ s v. listed (list_with j s) (outlined v)) (λ s text. listed (list_with j s) (patches_in s.skip_binary text))
-    (λ s text v read. listed-by (list_with j s) s.skip_binary text v read) (given j.input j.select f left)
+listed-is j unasked f left = comes-is IsOutlineOf (λ s v. listed (list_with j s) (outlined v)) (λ s text. listed_in (list_with j s) text)
+    (λ s text v read. listed-by (list_with j s) text v unasked read) (given j.input j.select f left)
+
+pub whole-is : (j : PlainListJob) → asks_hunks j.shown ≡ true → (f : Files) (left : List ℕ) (o : Outcome) → Comes IsSet (λ s v. listed_whole (list_with j s) v) (given j.input j.select f left) o → o ≡ list_outcome j f left
+unfolding list_outcome
+whole-is j asked f left = comes-is IsSet (λ s v. listed_whole (list_with j s) v) (λ s text. listed_in (list_with j s) text)
+    (λ s text v read. whole-by (list_with j s) text v asked read) (given j.input j.select f left)
 
 pub filtered-is : (j : PlainFilterJob) (f : Files) (left : List ℕ) (o : Outcome) → Comes IsDigestIn (λ s v. filtered_digest (filter_with j s) v) (given j.input j.select f left) o → o ≡ filter_outcome j f left
 unfolding filter_outcome

@@ -6,11 +6,10 @@ use Rattle.run_answers.specs.declared.fault.InputFault.{InputFault}
 use Rattle.patch_set.specs.declared.fault.SetFault.{SetFault}
 use Rattle.patch_set.specs.declared.fault.SetFault.TheVariants.{Garbage}
 use Rattle.patch_set.specs.Refusals.{refusal}
-use Rattle.patch_filters.specs.Listed.{listed}
 use Rattle.whole_filters.specs.Texts.{defaults, patches_in}
 use Rattle.whole_filters.specs.Outcomes.{Outcome, given}
 use Rattle.whole_filters.specs.declared.fault.FilterFault.TheVariants as faults
-use Rattle.filter_cli.specs.Texts.{filtered_in, grepped_in}
+use Rattle.filter_cli.specs.Texts.{filtered_in, grepped_in, listed_in}
 
 -- the same job with another selection
 abbrev pub list_with : PlainListJob → PlainSelect → PlainListJob
@@ -35,7 +34,7 @@ outcome_by written (Err fault) = Err (faults.Input fault)
 
 -- `lsdiff`
 unfoldable pub list_outcome : PlainListJob → Files → List ℕ → Outcome
-list_outcome j files left = outcome_by (λ s text. listed (list_with j s) (patches_in s.skip_binary text)) (given j.input j.select files left)
+list_outcome j files left = outcome_by (λ s text. listed_in (list_with j s) text) (given j.input j.select files left)
 
 -- `filterdiff`
 unfoldable pub filter_outcome : PlainFilterJob → Files → List ℕ → Outcome

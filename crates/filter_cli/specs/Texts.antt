@@ -1,16 +1,32 @@
--- What `filterdiff` and `grepdiff` write of a text: told by the text alone (manual pages of patchutils).
-use Rattle.std.specs.Prelude.{ℕ, Bool, filter, List, [], ◌++◌, codes, if◌then◌else◌}
+-- What `lsdiff`, `filterdiff` and `grepdiff` write of a text: told by the text alone (manual pages of patchutils).
+use Rattle.std.specs.Prelude.{ℕ, Bool, filter, List, [], ◌++◌, if◌then◌else◌}
 use Rattle.std.specs.List.{flat_map, list_any}
 use Rattle.line_list.specs.Completed.{completed}
-use Rattle.patch_set.specs.PlainName.{plain_name}
 use Rattle.filter_choice.specs.Kept.{is_taken, kept}
 use Rattle.filter_choice.specs.Selected.{numbered}
-use Rattle.patch_filters.specs.Filtered.{asks_no_hunk, chosen}
+use Rattle.patch_filters.specs.Filtered.{asks_no_hunk, chosen, text_if}
 use Rattle.patch_filters.specs.Grepped.{hits_of, is_found}
-use Rattle.tool_words.specs.PlainJobs.{PlainFilterJob, PlainGrepJob}
+use Rattle.patch_filters.specs.HunkLines.{first_line, lines_from}
+use Rattle.patch_filters.specs.Listed.{asks_hunks, is_listed, listed, name_line}
+use Rattle.tool_words.specs.PlainJobs.{PlainFilterJob, PlainGrepJob, PlainListJob}
 use Rattle.tool_words.specs.declared.jobs.GrepOut.{GrepOut}
 use Rattle.tool_words.specs.declared.jobs.GrepOut.TheVariants.{Names, Hunks, Files}
-use Rattle.whole_filters.specs.Texts.{Spot, spots_in, front_of, pieces_of, all_of}
+use Rattle.whole_filters.specs.Texts.{Spot, spots_in, patches_in, front_of, pieces_of, all_of}
+
+-- ---- `lsdiff`
+
+-- the lines of the hunks of a file patch
+abbrev pub spot_lines : List ℕ → Spot → List (List ℕ)
+spot_lines text s = lines_from (first_line s.0.header.form s.0.header.opening) 1 (pieces_of text s.0)
+
+-- the line of a file patch, and those of its hunks where they are asked for
+abbrev pub spot_listed : PlainListJob → List ℕ → Spot → List ℕ
+spot_listed j text s = name_line j.shown s.1 ++ text_if (j.shown.hunks, flat_map (λ line. line) (spot_lines text s))
+
+-- what is written of the file patches of a text that are selected; without hunks their lines are enough
+unfoldable pub listed_in : PlainListJob → List ℕ → List ℕ
+listed_in j text = if asks_hunks j.shown then flat_map (spot_listed j (completed text)) (filter (λ s. is_listed j s.1) (spots_in j.select.skip_binary text))
+    else listed j (patches_in j.select.skip_binary text)
 
 -- ---- `filterdiff`
 
@@ -35,12 +51,13 @@ filtered_in j text = flat_map (λ n. spot_written j (completed text) n.1) (filte
 
 -- ---- `grepdiff`
 
--- of a file patch that is found its whole name, the lines in front of its hunks and just the hunks with a hit, or all of it
-abbrev pub spot_found : (List ℕ → Bool) → GrepOut → List ℕ → Spot → List ℕ
-spot_found hit Names text s = plain_name s.1.header ++ codes "\n"
-spot_found hit Hunks text s = front_of text s.0 ++ chosen (hits_of hit s.1.change) (pieces_of text s.0)
-spot_found hit Files text s = all_of text s.0
+-- of a file patch that is found its line and, where that is asked for, those of the hunks with a hit; or the lines in front of its hunks and
+-- just these hunks; or all of it
+abbrev pub spot_found : (List ℕ → Bool) → GrepOut → PlainGrepJob → List ℕ → Spot → List ℕ
+spot_found hit Names j text s = name_line j.shown s.1 ++ text_if (j.shown.hunks, chosen (hits_of j.searched hit s.1.change) (spot_lines text s))
+spot_found hit Hunks j text s = front_of text s.0 ++ chosen (hits_of j.searched hit s.1.change) (pieces_of text s.0)
+spot_found hit Files j text s = all_of text s.0
 
 -- what is written of the file patches of a text that are found
 unfoldable pub grepped_in : (List ℕ → Bool) → PlainGrepJob → List ℕ → List ℕ
-grepped_in hit j text = flat_map (spot_found hit j.output (completed text)) (filter (λ s. is_found hit j s.1) (spots_in j.select.skip_binary text))
+grepped_in hit j text = flat_map (spot_found hit j.output j (completed text)) (filter (λ s. is_found hit j s.1) (spots_in j.select.skip_binary text))

@@ -1,9 +1,9 @@
 //! The filters that write one text and leave the tree as it is.
-ghost use Rattle.std.specs.Prelude.{◌≡◌, ℕ, List, [], None, Ok, string_bytes, IfErr, IfSome, OnErr, OnOk};
+ghost use Rattle.std.specs.Prelude.{◌≡◌, ℕ, List, [], true, false, None, Ok, string_bytes, IfErr, IfSome, OnErr, OnOk};
 ghost use Rattle.outside.specs.Files.{Files};
 ghost use Rattle.outside.specs.FinderView.{FinderPasses};
 ghost use Rattle.outside.specs.SinkView.{Receives, ReceivesPart, SinkPasses, Writes};
-ghost use Rattle.tool_words.specs.PlainJobs.{PlainFilterJob, plain_filter_job, plain_grep_job, plain_list_job, plain_select};
+ghost use Rattle.tool_words.specs.PlainJobs.{PlainFilterJob, plain_filter_job, plain_grep_job, plain_list_job, plain_select, plain_shown};
 ghost use Rattle.run_answers.specs.Input.{IsFile};
 ghost use Rattle.filter_choice.specs.Digested.{DigestView, IsDigestOf};
 ghost use Rattle.filter_choice.specs.Outlined.{outlined};
@@ -11,7 +11,7 @@ ghost use Rattle.patch_set.specs.SetView.{IsRead, SetView};
 ghost use Rattle.patch_filters.specs.Digested.{filtered_digest};
 ghost use Rattle.patch_filters.specs.Filtered.{filtered};
 ghost use Rattle.patch_filters.specs.Grepped.{HasGrepCause, grepped};
-ghost use Rattle.patch_filters.specs.Listed.{listed};
+ghost use Rattle.patch_filters.specs.Listed.{asks_hunks, listed, listed_whole};
 ghost use Rattle.filter_cli.specs.Faults.{of_grep, of_search, of_sink};
 ghost use Rattle.filter_cli.specs.Outcomes.{HasPatches, filter_outcome, list_outcome};
 ghost use Rattle.whole_filters.specs.Outcomes.{IsOutcomeOf, given};
@@ -21,14 +21,17 @@ ghost use Rattle.whole_filters.specs.Sifting.{HasTextCause, IsTold, Sifts};
 
 use filter_choice::{Digest, Outline};
 use outside::{Failed, Finder, Sink, Source, Tree};
-use patch_filters::{GrepFault, filter_patches, grep_patches, list_patches};
+use patch_filters::{
+    GrepFault, asks_hunks, filter_patches, grep_patches, list_patches, list_whole,
+};
 use patch_set::PatchSet;
 use std::alloc::Global;
 use std::mem::forget;
 use tool_words::{FilterJob, GrepJob, ListJob};
 use whole_filters::{FilterFault, open_digest, open_outline, open_text};
 
-/// Carries out a command of `lsdiff`: the list of the file patches that it means. What was read is left to the end of the process.
+/// Carries out a command of `lsdiff`: the list of the file patches that it means, which are read without their hunks where none is asked for.
+/// What was read is left to the end of the process.
 pub fn run_list<T: Tree, I: Source, O: Sink>(
     alloc: Global,
     job: ListJob,
@@ -40,10 +43,56 @@ pub fn run_list<T: Tree, I: Source, O: Sink>(
     ensures unread { IsFile job.input → source.new ≡ source.old }
     ensures rest { O.same_rest out.old out.new }
 {
+    if asks_hunks(&job.shown) {
+        list_wholes(alloc, job, tree, source, out)
+    } else {
+        list_outlines(alloc, job, tree, source, out)
+    }
+}
+
+fn list_outlines<T: Tree, I: Source, O: Sink>(
+    alloc: Global,
+    job: ListJob,
+    tree: &mut T,
+    source: &mut I,
+    out: &mut O,
+) -> Result<(), FilterFault>
+    requires { asks_hunks (plain_shown job.shown) ≡ false }
+    ensures sifts { Sifts job.input (plain_select job.select) (HasTextCause job.select.skip_binary) ⊥ (IsOutcomeOf (list_outcome (plain_list_job job))) (T.view tree.old) (T.view tree.new) (I.view source.old) (I.view source.new) (O.view out.old) (O.view out.new) result }
+    ensures unread { IsFile job.input → source.new ≡ source.old }
+    ensures rest { O.same_rest out.old out.new }
+{
     let mut job = job;
     match open_outline(alloc, &job.input, &mut job.select, tree, source) {
         Ok(opened) => {
             let answer = sink_answer(put_listed(&opened, &job, out));
+            leave(opened);
+            drop(job);
+            answer
+        }
+        Err(fault) => {
+            drop(job);
+            Err(fault)
+        }
+    }
+}
+
+fn list_wholes<T: Tree, I: Source, O: Sink>(
+    alloc: Global,
+    job: ListJob,
+    tree: &mut T,
+    source: &mut I,
+    out: &mut O,
+) -> Result<(), FilterFault>
+    requires { asks_hunks (plain_shown job.shown) ≡ true }
+    ensures sifts { Sifts job.input (plain_select job.select) (HasTextCause job.select.skip_binary) ⊥ (IsOutcomeOf (list_outcome (plain_list_job job))) (T.view tree.old) (T.view tree.new) (I.view source.old) (I.view source.new) (O.view out.old) (O.view out.new) result }
+    ensures unread { IsFile job.input → source.new ≡ source.old }
+    ensures rest { O.same_rest out.old out.new }
+{
+    let mut job = job;
+    match open_text(alloc, &job.input, &mut job.select, tree, source) {
+        Ok(opened) => {
+            let answer = sink_answer(put_whole(&opened, &job, out));
             leave(opened);
             drop(job);
             answer
@@ -135,6 +184,18 @@ fn put_listed<O: Sink>(opened: &Option<Outline>, job: &ListJob, out: &mut O) -> 
 {
     match opened {
         Some(outline) => list_patches(outline, job, out),
+        None => Ok(()),
+    }
+}
+
+/// Writes the list of the file patches with their hunks, where there are some.
+fn put_whole<O: Sink>(opened: &Option<PatchSet>, job: &ListJob, out: &mut O) -> Result<(), Failed>
+    ensures writes { IfSome opened.now (λ v. Writes (O.view out.old) (O.view out.new) result (listed_whole (plain_list_job job.now) v)) }
+    ensures none { opened.now ≡ None → (result ≡ Ok tt) × (out.new ≡ out.old) }
+    ensures rest { O.same_rest out.old out.new }
+{
+    match opened {
+        Some(set) => list_whole(set, job, out),
         None => Ok(()),
     }
 }

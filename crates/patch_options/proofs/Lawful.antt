@@ -6,9 +6,11 @@ use Rattle.std.proofs.lemmas.Slice.Eq.{bytes_eq-Decides}
 use Rattle.outside.specs.Names.{is_slash, is_control, broken_given, IsFront}
 use Rattle.clap.specs.Words.{Row, Text}
 use Rattle.hunk_core.specs.declared.Form.TheVariants.{Unified, Context}
-use Rattle.patch_options.specs.Forms.{is_suffix, is_backup_kind, is_prefix, is_name, is_lasting_name, is_reject_file, is_directory, is_empty, is_macro_name, buffer_of, buffer_in, number_of, reject_form_of}
+use Rattle.patch_options.specs.Forms.{is_suffix, is_backup_kind, is_prefix, is_name, is_lasting_name, is_reject_file, is_directory, is_empty, is_macro_name, buffer_of, buffer_in, usual_buffer, number_of, reject_form_of}
 use Rattle.patch_options.specs.PlainJob.{IsSuffix, HasContext, IsMacroName, IsLawful}
-use Rattle.patch_options.specs.Table.{is_command, options_of, value_of, has_form, outputs_agree, switches_agree, values_agree, names_agree, numbers_agree, words_agree, others_agree}
+use Rattle.patch_options.specs.Table.{is_command, options_of, value_of, has_form, outputs_agree, switches_agree, values_agree, names_agree, numbers_agree, words_agree, others_agree, plan_in}
+use Rattle.patch_options.specs.declared.options.PlanKind.{PlanKind}
+use Rattle.patch_options.specs.declared.options.PlanKind.TheVariants.{Whole, Padded, Packed, Auto}
 
 both : (a b : Bool) → (a && b) ≡ true → (a ≡ true) × (b ≡ true)
 both true b h = (refl, h)
@@ -76,17 +78,23 @@ size_in n = go (nat_le 512 n) (nat_le n 1048576) refl refl
     go true false least most = none_has IsSize
     go false b least most = none_has IsSize
 
-size_of : (value : Option Text) → IsSize (unwrap_or (option_and_then buffer_of value) 65536)
+usual_is : (plan : PlanKind) → IsSize (usual_buffer plan)
+usual_is Whole = (omega arith, omega arith)
+usual_is Padded = (omega arith, omega arith)
+usual_is Packed = (omega arith, omega arith)
+usual_is Auto = (omega arith, omega arith)
+
+pub size_of : (value : Option Text) (plan : PlanKind) → IsSize (unwrap_or (option_and_then buffer_of value) (usual_buffer plan))
 unfolding buffer_of
-size_of None = (omega arith, omega arith)
-size_of (Some text) = from_number (number_of text)
+size_of None plan = usual_is plan
+size_of (Some text) plan = from_number (number_of text)
   where
-    given : (o : Option ℕ) → ForSome o IsSize → IsSize (unwrap_or o 65536)
-    given None h = (omega arith, omega arith)
+    given : (o : Option ℕ) → ForSome o IsSize → IsSize (unwrap_or o (usual_buffer plan))
+    given None h = usual_is plan
     given (Some n) h = h n refl
 
-    from_number : (o : Option ℕ) → IsSize (unwrap_or (option_and_then buffer_in o) 65536)
-    from_number None = (omega arith, omega arith)
+    from_number : (o : Option ℕ) → IsSize (unwrap_or (option_and_then buffer_in o) (usual_buffer plan))
+    from_number None = usual_is plan
     from_number (Some n) = given (buffer_in n) (size_in n)
 
 pub lawful_options : (rows : List Row) → is_command rows ≡ true → IsLawful (options_of rows)
@@ -105,7 +113,7 @@ lawful_options rows h =
     let outputs = both _ (outputs_agree rows) behind_dir.1 in
     let behind_output = both _ (has_form is_reject_file (value_of rows (codes "reject-file")) && has_form is_prefix (value_of rows (codes "prefix"))) outputs.1 in
     let prefix = both _ (has_form is_prefix (value_of rows (codes "prefix"))) behind_output.1 in
-    let size = size_of (value_of rows (codes "buffer")) in
+    let size = size_of (value_of rows (codes "buffer")) (plan_in rows) in
     record {
       suffix = of_form is_suffix IsSuffix (value_of rows (codes "suffix")) suffix_is suffix.0;
       prefix = of_form is_prefix IsFront (value_of rows (codes "prefix")) prefix_is prefix.1;

@@ -30,6 +30,13 @@ buffer_in n = if nat_le 512 n && nat_le n 1048576 then Some n else None
 unfoldable pub buffer_of : List ℕ → Option ℕ
 buffer_of text = option_and_then buffer_in (number_of text)
 
+-- the size of a buffer that isn't said: there is room for long lines where the size of a file decides how its lines are held
+abbrev pub usual_buffer : PlanKind → ℕ
+usual_buffer Whole = 65536
+usual_buffer Padded = 65536
+usual_buffer Packed = 65536
+usual_buffer Auto = 1048576
+
 -- the plan that a text names
 unfoldable pub plan_of : List ℕ → Option PlanKind
 plan_of text = if bytes_eq text (codes "a") then Some Whole

@@ -6,8 +6,9 @@ use Rattle.clap.specs.Words.{Row, Text, count_of, first_of}
 use Rattle.outside.specs.Names.{given_form, is_here}
 use Rattle.hunk_core.specs.declared.Form.{Form}
 use Rattle.hunk_core.specs.declared.Form.TheVariants.{Unified, Context, Normal, Ed}
-use Rattle.patch_options.specs.Forms.{number_of, buffer_of, plan_of, reject_form_of, is_suffix, is_backup_kind, is_get, is_quoting_style, is_read_only, sync_of, is_macro_name, is_prefix, is_lasting_name, is_reject_file, is_directory, is_patch_file}
+use Rattle.patch_options.specs.Forms.{number_of, buffer_of, usual_buffer, plan_of, reject_form_of, is_suffix, is_backup_kind, is_get, is_quoting_style, is_read_only, sync_of, is_macro_name, is_prefix, is_lasting_name, is_reject_file, is_directory, is_patch_file}
 use Rattle.patch_options.specs.PlainJob.{PlainOptions}
+use Rattle.patch_options.specs.declared.options.PlanKind.{PlanKind}
 use Rattle.patch_options.specs.declared.options.PlanKind.TheVariants.{Auto}
 use Rattle.patch_options.specs.declared.options.SyncKind.{SyncKind}
 use Rattle.patch_options.specs.declared.options.SyncKind.TheVariants.{Each}
@@ -107,6 +108,14 @@ mismatch_backup rows = if is_used rows (codes "posix") then is_used rows (codes 
 abbrev pub sync_in : List Row → SyncKind
 sync_in rows = unwrap_or (option_and_then sync_of (value_of rows (codes "sync"))) Each
 
+-- how the lines of the file to be patched are held
+abbrev pub plan_in : List Row → PlanKind
+plan_in rows = unwrap_or (option_and_then plan_of (value_of rows (codes "plan"))) Auto
+
+-- the size of a buffer, by the words or else by the plan
+abbrev pub buffer_size : List Row → ℕ
+buffer_size rows = unwrap_or (option_and_then buffer_of (value_of rows (codes "buffer"))) (usual_buffer (plan_in rows))
+
 abbrev pub first_given : Option Text → Option Text → Option Text
 first_given None other = other
 first_given (Some text) other = Some text
@@ -157,7 +166,7 @@ options_of rows = record {
   follow_links = is_used rows (codes "follow-symlinks");
   silent = is_used rows (codes "silent") || is_used rows (codes "quiet");
   verbose = is_used rows (codes "verbose");
-  plan = unwrap_or (option_and_then plan_of (value_of rows (codes "plan"))) Auto;
-  buffer = unwrap_or (option_and_then buffer_of (value_of rows (codes "buffer"))) 65536;
+  plan = plan_in rows;
+  buffer = buffer_size rows;
   sync = sync_in rows;
 }

@@ -1,10 +1,10 @@
 //! What each switch and each value of `patch` gives.
 ghost use Rattle.std.specs.Prelude.{◌≡◌, ◌⊎◌, ◌||◌, ◌<◌, codes, true, false, is_some, IfOk, IfErr, string_bytes, option_map, option_and_then, unwrap_or};
-ghost use Rattle.patch_options.specs.Forms.{number_of, buffer_of, plan_of, reject_form_of, is_suffix, is_backup_kind, is_get, is_quoting_style, is_read_only, sync_of, is_macro_name};
+ghost use Rattle.patch_options.specs.Forms.{number_of, buffer_of, usual_buffer, plan_of, reject_form_of, is_suffix, is_backup_kind, is_get, is_quoting_style, is_read_only, sync_of, is_macro_name};
 ghost use Rattle.patch_options.specs.HasNames.{HasNames};
 ghost use Rattle.patch_options.specs.PlainJob.{plain_options};
 ghost use Rattle.patch_options.specs.Simple.{rows_in};
-ghost use Rattle.patch_options.specs.Table.{uses, value_of, text_of, has_form, is_used, are_both_used, forms_named, exclusions_hold, switches_agree, numbers_agree, words_agree, writing_agrees, others_agree, values_agree, is_command, options_of, only_form, mismatch_backup, sync_in};
+ghost use Rattle.patch_options.specs.Table.{uses, value_of, text_of, has_form, is_used, are_both_used, forms_named, exclusions_hold, switches_agree, numbers_agree, words_agree, writing_agrees, others_agree, values_agree, is_command, options_of, only_form, mismatch_backup, sync_in, plan_in, buffer_size};
 
 use crate::forms::{
     buffer_of, is_backup_kind, is_get, is_macro_name, is_quoting_style, is_read_only, is_suffix,
@@ -338,7 +338,7 @@ pub fn sync_in(matches: &ArgMatches<'_>) -> SyncKind
 
 /// The plan that `--plan` names.
 pub fn plan_in(matches: &ArgMatches<'_>) -> PlanKind
-    ensures { result ≡ unwrap_or (option_and_then plan_of (value_of (rows_in matches.now) (codes "plan"))) PlanKind.Auto }
+    ensures { result ≡ plan_in (rows_in matches.now) }
 {
     match value_of(matches, "plan") {
         Some(text) => plan_of(text).unwrap_or(PlanKind::Auto),
@@ -346,13 +346,24 @@ pub fn plan_in(matches: &ArgMatches<'_>) -> PlanKind
     }
 }
 
-/// The size that `--buffer` gives.
+/// The size that `--buffer` gives, or else that of the plan's buffers.
 pub fn buffer_in(matches: &ArgMatches<'_>) -> u32
-    ensures { result ≡ unwrap_or (option_and_then buffer_of (value_of (rows_in matches.now) (codes "buffer"))) 65536 }
+    ensures { result ≡ buffer_size (rows_in matches.now) }
 {
+    let usual = usual_buffer(plan_in(matches));
     match value_of(matches, "buffer") {
-        Some(text) => buffer_of(text).unwrap_or(65_536),
-        None => 65_536,
+        Some(text) => buffer_of(text).unwrap_or(usual),
+        None => usual,
+    }
+}
+
+/// The size of a plan's buffers where none is given.
+fn usual_buffer(plan: PlanKind) -> u32
+    ensures { result ≡ usual_buffer plan }
+{
+    match plan {
+        PlanKind::Whole | PlanKind::Padded | PlanKind::Packed => 65_536,
+        PlanKind::Auto => 1_048_576,
     }
 }
 

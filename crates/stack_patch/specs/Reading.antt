@@ -57,7 +57,7 @@ push_options = record {
   silent = false;
   verbose = false;
   plan = Auto;
-  buffer = 65536;
+  buffer = 1048576;
   sync = Each;
 }
 

@@ -5,9 +5,9 @@ use Rattle.std.specs.Option.{ForSome, option_map_or}
 use Rattle.std.proofs.lemmas.List.Elements.{All-nil, All-cons}
 use Rattle.clap.specs.Words.{Row, Text}
 use Rattle.outside.specs.Files.{is_temp}
-use Rattle.patch_options.specs.Forms.{buffer_in, buffer_of, is_empty, is_lasting_name, is_name, number_of}
-use Rattle.patch_options.specs.Table.{value_of}
-use Rattle.patch_options.proofs.Lawful.{some_has, none_has, is_false}
+use Rattle.patch_options.specs.Forms.{is_empty, is_lasting_name, is_name, number_of}
+use Rattle.patch_options.specs.Table.{value_of, plan_in}
+use Rattle.patch_options.proofs.Lawful.{some_has, none_has, is_false, size_of}
 use Rattle.tool_words.specs.Asked.{asked, gen_of, is_gen, is_lawful, is_made, is_size, is_split_file, is_sync, is_within, number_in}
 use Rattle.tool_words.specs.PlainJobs.{AreRanges, IsLawfulToolJob, IsRange, IsSize}
 use Rattle.tool_words.specs.Ranges.{between, end_or, item_of, items_by, ordered, positive, positive_of, ranges_of, single}
@@ -125,38 +125,11 @@ made_are (Some seed) (Some files) None h = cc
 made_are (Some seed) None lines h = cc
 made_are None files lines h = cc
 
-abbrev IsPage : ℕ → Type 0
-IsPage n = (512 ≤ n) × (n ≤ 1048576)
-
-page_in : (n : ℕ) → ForSome (buffer_in n) IsPage
-page_in n = go (nat_le 512 n) (nat_le n 1048576) refl refl
-  where
-    go : (a b : Bool) → nat_le 512 n ≡ a → nat_le n 1048576 ≡ b → ForSome (if a && b then Some n else None) IsPage
-    go true true least most = some_has IsPage n (at_most 512 n least, at_most n 1048576 most)
-    go true false least most = none_has IsPage
-    go false b least most = none_has IsPage
-
-page_of : (text : Text) → ForSome (buffer_of text) IsPage
-unfolding buffer_of
-page_of text = go (number_of text)
-  where
-    go : (o : Option ℕ) → ForSome (option_and_then buffer_in o) IsPage
-    go None = none_has IsPage
-    go (Some n) = page_in n
-
-page_is : (value : Option Text) → IsPage (unwrap_or (option_and_then buffer_of value) 65536)
-page_is None = (omega arith, omega arith)
-page_is (Some text) = go (buffer_of text) (page_of text)
-  where
-    go : (o : Option ℕ) → ForSome o IsPage → IsPage (unwrap_or o 65536)
-    go None h = (omega arith, omega arith)
-    go (Some n) h = h n refl
-
 gen_has : (rows : List Row) → is_gen rows ≡ true → IsSize (gen_of rows)
 gen_has rows h =
     let p = both (is_made (number_in rows (codes "seed")) (number_in rows (codes "files")) (number_in rows (codes "lines"))) _ h in
     let sizes = made_are (number_in rows (codes "seed")) (number_in rows (codes "files")) (number_in rows (codes "lines")) p.0 in
-    let page = page_is (value_of rows (codes "buffer")) in
+    let page = size_of (value_of rows (codes "buffer")) (plan_in rows) in
     record { some_files = sizes.0.0; few_files = sizes.0.1; some_lines = sizes.1.0.0; few_lines = sizes.1.0.1; few = sizes.1.1; least = page.0; most = page.1 }
 
 -- ---- all tools

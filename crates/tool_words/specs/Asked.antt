@@ -1,16 +1,18 @@
 -- What the words of each tool ask for, over what `clap` matched.
-use Rattle.std.specs.Prelude.{ℕ, ◌*◌, List, [], codes, nat_le, Bool, false, not, ◌&&◌, if◌then◌else◌, bytes_eq, Option, None, Some, is_some, option_and_then, unwrap_or}
+use Rattle.std.specs.Prelude.{ℕ, ◌*◌, List, [], codes, nat_le, Bool, false, not, ◌&&◌, ◌||◌, if◌then◌else◌, bytes_eq, Option, None, Some, is_some, option_and_then, unwrap_or}
 use Rattle.std.specs.Option.{option_map_or}
 use Rattle.clap.specs.Words.{Row, Text}
 use Rattle.hunk_core.specs.declared.Form.{Form}
 use Rattle.hunk_core.specs.declared.Form.TheVariants.{Unified, Context, Normal, Ed}
 use Rattle.patch_options.specs.Forms.{number_of, buffer_of, plan_of, sync_of, is_lasting_name}
-use Rattle.patch_options.specs.Table.{is_used, value_of, has_form, sync_in}
-use Rattle.patch_options.specs.declared.options.PlanKind.TheVariants.{Auto}
+use Rattle.patch_options.specs.Table.{is_used, value_of, has_form, sync_in, plan_in, buffer_size}
 use Rattle.tool_words.specs.PlainJobs.{PlainListJob, PlainFilterJob, PlainGrepJob, PlainSplitJob, PlainGenJob, PlainToolJob}
 use Rattle.tool_words.specs.PlainJobs.PlainToolJob.{list_job, filter_job, grep_job, split_job, recount_job, gen_job, flip_job, stack_job}
 use Rattle.tool_words.specs.Ranges.{ranges_of}
-use Rattle.tool_words.specs.Selecting.{is_number, number_or_0, name_in, is_select, select_of, is_input, input_in}
+use Rattle.tool_words.specs.Selecting.{number_or_0, name_in, is_select, select_of, is_input, input_in}
+use Rattle.tool_words.specs.Showing.{is_one_given, is_shown, shown_of}
+use Rattle.tool_words.specs.declared.jobs.Searched.{Searched}
+use Rattle.tool_words.specs.declared.jobs.Searched.TheVariants.{All, Removed, Added, Changed}
 use Rattle.tool_words.specs.declared.jobs.GrepOut.{GrepOut}
 use Rattle.tool_words.specs.declared.jobs.GrepOut.TheVariants.{Names, Hunks, Files}
 use Rattle.tool_words.specs.declared.jobs.StackJob.{StackJob}
@@ -30,15 +32,17 @@ is_sync rows = has_form (λ t. is_some (sync_of t)) (value_of rows (codes "sync"
 -- ---- `lsdiff`
 
 abbrev pub is_list : List Row → Bool
-is_list rows = has_form is_number (value_of rows (codes "strip")) && is_subject rows
+is_list rows = is_shown rows && is_subject rows
+
+-- a side without lines is absent, by one word or the other
+abbrev pub is_empty_absent : List Row → Bool
+is_empty_absent rows = is_used rows (codes "empty-files-as-absent") || is_used rows (codes "empty-files-as-removed")
 
 abbrev pub list_of : List Row → PlainListJob
 list_of rows = record {
   input = input_in rows;
   select = select_of rows;
-  status = is_used rows (codes "status");
-  numbers = is_used rows (codes "line-number");
-  shown_strip = number_or_0 rows (codes "strip");
+  shown = shown_of rows (is_empty_absent rows);
 }
 
 -- ---- `filterdiff`
@@ -85,16 +89,41 @@ grep_out_of text = if bytes_eq text (codes "hunk") then Some Hunks
 abbrev pub is_grep_out : List ℕ → Bool
 is_grep_out text = is_some (grep_out_of text)
 
+-- which lines are searched, by the word for it
+unfoldable pub searched_of : List ℕ → Option Searched
+searched_of text = if bytes_eq text (codes "all") then Some All
+    else if bytes_eq text (codes "rem") then Some Removed
+    else if bytes_eq text (codes "removals") then Some Removed
+    else if bytes_eq text (codes "add") then Some Added
+    else if bytes_eq text (codes "additions") then Some Added
+    else if bytes_eq text (codes "mod") then Some Changed
+    else if bytes_eq text (codes "modifications") then Some Changed
+    else None
+
+abbrev pub is_searched : List ℕ → Bool
+is_searched text = is_some (searched_of text)
+
+-- words that only names have
+abbrev pub shows_names : List Row → Bool
+shows_names rows = is_used rows (codes "line-number") || is_one_given rows (codes "strip") (codes "addprefix")
+
+-- names are shown, or hunks or file patches are written
+abbrev pub is_one_kind : List Row → Bool
+is_one_kind rows = not (is_some (value_of rows (codes "output-matching")) && shows_names rows)
+
 -- a pattern is there; that it is an extended one is so in any case
 abbrev pub is_grep : List Row → Bool
-is_grep rows = is_some (value_of rows (codes "regex")) && (has_form is_grep_out (value_of rows (codes "output-matching")) && is_subject rows)
+is_grep rows = is_some (value_of rows (codes "regex"))
+    && (has_form is_grep_out (value_of rows (codes "output-matching")) && (has_form is_searched (value_of rows (codes "only-match")) && (is_one_kind rows && is_list rows)))
 
 abbrev pub grep_of : List Row → PlainGrepJob
 grep_of rows = record {
   input = input_in rows;
   select = select_of rows;
   pattern = unwrap_or (value_of rows (codes "regex")) [];
+  searched = unwrap_or (option_and_then searched_of (value_of rows (codes "only-match"))) All;
   output = unwrap_or (option_and_then grep_out_of (value_of rows (codes "output-matching"))) Names;
+  shown = shown_of rows false;
 }
 
 -- ---- `splitdiff`
@@ -141,8 +170,8 @@ gen_of rows = record {
   seed = number_or_0 rows (codes "seed");
   files = number_or_0 rows (codes "files");
   lines = number_or_0 rows (codes "lines");
-  plan = unwrap_or (option_and_then plan_of (value_of rows (codes "plan"))) Auto;
-  buffer = unwrap_or (option_and_then buffer_of (value_of rows (codes "buffer"))) 65536;
+  plan = plan_in rows;
+  buffer = buffer_size rows;
   sync = sync_in rows;
 }
 

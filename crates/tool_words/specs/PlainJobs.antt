@@ -8,8 +8,10 @@ use Rattle.patch_options.specs.declared.options.PlanKind.{PlanKind}
 use Rattle.patch_options.specs.declared.options.SyncKind.{SyncKind}
 use Rattle.tool_words.specs.declared.jobs.Select.{Select}
 use Rattle.tool_words.specs.declared.jobs.Ranges.{Ranges}
+use Rattle.tool_words.specs.declared.jobs.Shown.{Shown}
 use Rattle.tool_words.specs.declared.jobs.ListJob.{ListJob}
 use Rattle.tool_words.specs.declared.jobs.FilterJob.{FilterJob}
+use Rattle.tool_words.specs.declared.jobs.Searched.{Searched}
 use Rattle.tool_words.specs.declared.jobs.GrepOut.{GrepOut}
 use Rattle.tool_words.specs.declared.jobs.GrepJob.{GrepJob}
 use Rattle.tool_words.specs.declared.jobs.SplitJob.{SplitJob}
@@ -32,13 +34,20 @@ pub record PlainSelect : Type 0 where
 abbrev pub PlainRanges : Type 0
 PlainRanges = List (ℕ × ℕ)
 
+-- how a file patch is shown; each field is that of `Shown`
+pub record PlainShown : Type 0 where
+  pub numbers : Bool
+  pub hunks : Bool
+  pub status : Bool
+  pub empty_absent : Bool
+  pub strip : ℕ
+  pub prefix : List ℕ
+
 -- a list; each field is that of `ListJob`
 pub record PlainListJob : Type 0 where
   pub input : Input
   pub select : PlainSelect
-  pub status : Bool
-  pub numbers : Bool
-  pub shown_strip : ℕ
+  pub shown : PlainShown
 
 -- what is left of a text; each field is that of `FilterJob`
 pub record PlainFilterJob : Type 0 where
@@ -54,7 +63,9 @@ pub record PlainGrepJob : Type 0 where
   pub input : Input
   pub select : PlainSelect
   pub pattern : List ℕ
+  pub searched : Searched
   pub output : GrepOut
+  pub shown : PlainShown
 
 -- what is cut; each field is that of `SplitJob`
 pub record PlainSplitJob : Type 0 where
@@ -98,14 +109,17 @@ plain_select s = record {
 abbrev pub plain_ranges : Option Ranges → Option PlainRanges
 plain_ranges ranges = option_map (λ r. r.items.items) ranges
 
+abbrev pub plain_shown : Shown → PlainShown
+plain_shown s = record { numbers = s.numbers; hunks = s.hunks; status = s.status; empty_absent = s.empty_absent; strip = s.strip; prefix = s.prefix.items }
+
 abbrev pub plain_list_job : ListJob → PlainListJob
-plain_list_job j = record { input = j.input; select = plain_select j.select; status = j.status; numbers = j.numbers; shown_strip = j.shown_strip }
+plain_list_job j = record { input = j.input; select = plain_select j.select; shown = plain_shown j.shown }
 
 abbrev pub plain_filter_job : FilterJob → PlainFilterJob
 plain_filter_job j = record { input = j.input; select = plain_select j.select; hunks = plain_ranges j.hunks; lines = plain_ranges j.lines; files = plain_ranges j.files; format = j.format }
 
 abbrev pub plain_grep_job : GrepJob → PlainGrepJob
-plain_grep_job j = record { input = j.input; select = plain_select j.select; pattern = string_bytes j.pattern; output = j.output }
+plain_grep_job j = record { input = j.input; select = plain_select j.select; pattern = string_bytes j.pattern; searched = j.searched; output = j.output; shown = plain_shown j.shown }
 
 abbrev pub plain_split_job : SplitJob → PlainSplitJob
 plain_split_job j = record { input = j.input; every = j.every; skip_binary = j.skip_binary; sync = j.sync }

@@ -19,16 +19,20 @@ input_table = operand (codes "file") ∷ []
 abbrev pub subject_table : List PlainWord
 subject_table = long_switch (codes "skip-binary") ∷ input_table
 
--- s 115, n 110
+-- how file patches are shown: s 115, n 110, v 118
+abbrev pub shown_words : List PlainWord
+shown_words = switch 115 (codes "status") ∷ switch 110 (codes "line-number") ∷ switch 118 (codes "verbose") ∷ named (codes "strip") ∷ named (codes "addprefix") ∷ []
+
+-- E 69
 abbrev pub list_table : List PlainWord
-list_table = switch 115 (codes "status") ∷ switch 110 (codes "line-number") ∷ named (codes "strip") ∷ (name_words ++ file_words) ++ subject_table
+list_table = shown_words ++ switch 69 (codes "empty-files-as-absent") ∷ long_switch (codes "empty-files-as-removed") ∷ (name_words ++ file_words) ++ subject_table
 
 abbrev pub filter_table : List PlainWord
 filter_table = name_words ++ file_words ++ (named (codes "files") ∷ named (codes "hunks") ∷ named (codes "lines") ∷ named (codes "format") ∷ subject_table)
 
 -- E 69
 abbrev pub grep_table : List PlainWord
-grep_table = name_words ++ (named (codes "output-matching") ∷ switch 69 (codes "extended-regexp") ∷ operand (codes "regex") ∷ subject_table)
+grep_table = (name_words ++ file_words) ++ named (codes "only-match") ∷ shown_words ++ named (codes "output-matching") ∷ switch 69 (codes "extended-regexp") ∷ operand (codes "regex") ∷ subject_table
 
 -- a 97
 abbrev pub split_table : List PlainWord

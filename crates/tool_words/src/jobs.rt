@@ -29,17 +29,29 @@ pub struct Ranges {
     pub items: Vec<(u32, u32)>,
 }
 
+/// How a list shows a file patch.
+#[derive(Drop, Debug)]
+pub struct Shown {
+    /// Whether the number of the line of the names is printed.
+    pub numbers: bool,
+    /// Whether a line follows for each hunk, with the number of the line at which it begins.
+    pub hunks: bool,
+    /// Whether a sign says which side is absent.
+    pub status: bool,
+    /// Whether a side is absent of which no hunk has a line.
+    pub empty_absent: bool,
+    /// How many slashes are stripped from a name that is printed.
+    pub strip: u32,
+    /// What is printed in front of a name.
+    pub prefix: Vec<u8>,
+}
+
 /// One command of `lsdiff`.
 #[derive(Drop, Debug)]
 pub struct ListJob {
     pub input: Input,
     pub select: Select,
-    /// Whether a sign says which side is absent.
-    pub status: bool,
-    /// Whether the number of the line of the names is printed.
-    pub numbers: bool,
-    /// How many slashes are stripped from a name that is printed.
-    pub shown_strip: u32,
+    pub shown: Shown,
 }
 
 /// One command of `filterdiff`.
@@ -55,6 +67,18 @@ pub struct FilterJob {
     pub files: Option<Ranges>,
     /// The form that is written; none: that of the text.
     pub format: Option<Form>,
+}
+
+/// Which lines of a hunk are searched.
+#[derive(Clone, Copy, Debug)]
+pub enum Searched {
+    All,
+    /// Those that the old side has alone.
+    Removed,
+    /// Those that the new side has alone.
+    Added,
+    /// Those that one side has alone.
+    Changed,
 }
 
 /// What is written of the file patches that have a hit.
@@ -75,7 +99,10 @@ pub struct GrepJob {
     pub select: Select,
     /// What a line of a hunk is to have.
     pub pattern: String,
+    pub searched: Searched,
     pub output: GrepOut,
+    /// How their names are shown.
+    pub shown: Shown,
 }
 
 /// One command of `splitdiff`.

@@ -6,14 +6,15 @@ mod jobs;
 mod ranges;
 mod readers;
 mod selecting;
+mod showing;
 mod tables;
 mod tools;
 mod words;
 
 pub use help::usage;
 pub use jobs::{
-    FilterJob, GenJob, GrepJob, GrepOut, ListJob, Ranges, Select, SplitJob, StackJob, StackOp,
-    ToolJob,
+    FilterJob, GenJob, GrepJob, GrepOut, ListJob, Ranges, Searched, Select, Shown, SplitJob,
+    StackJob, StackOp, ToolJob,
 };
 pub use tools::{Tool, tool_named};
 pub use words::read_tool_words;

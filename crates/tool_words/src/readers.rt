@@ -6,20 +6,21 @@ ghost use Rattle.tool_words.specs.PlainJobs.{plain_ranges, plain_tool_job};
 ghost use Rattle.tool_words.specs.PlainJobs.PlainToolJob.{list_job, filter_job, grep_job, split_job, recount_job, gen_job, flip_job, stack_job};
 ghost use Rattle.tool_words.specs.Ranges.{ranges_of};
 ghost use Rattle.tool_words.specs.Selecting.{is_input, input_in, name_in};
-ghost use Rattle.tool_words.specs.Asked.{is_list, list_of, are_ranges, is_form, form_of, is_filter, filter_of, is_grep_out, grep_out_of, is_grep, grep_of, is_split_file, is_split, split_of, is_size, is_gen, gen_of, stack_op_of, stack_op_in, is_stack, stack_of, is_lawful, asked};
+ghost use Rattle.tool_words.specs.Asked.{is_empty_absent, is_list, list_of, are_ranges, is_form, form_of, is_filter, filter_of, is_grep_out, grep_out_of, is_searched, searched_of, shows_names, is_one_kind, is_grep, grep_of, is_split_file, is_split, split_of, is_size, is_gen, gen_of, stack_op_of, stack_op_in, is_stack, stack_of, is_lawful, asked};
 
 use crate::ranges::read_ranges;
-use crate::selecting::{number_or_0, read_operand, read_subject};
+use crate::selecting::{is_given, is_one_given, read_operand, read_subject};
+use crate::showing::read_list;
 use crate::{
-    FilterJob, GenJob, GrepJob, GrepOut, ListJob, Ranges, SplitJob, StackJob, StackOp, Tool,
+    FilterJob, GenJob, GrepJob, GrepOut, Ranges, Searched, SplitJob, StackJob, StackOp, Tool,
     ToolJob,
 };
 use clap::ArgMatches;
 use hunk_core::Form;
 use outside::Name;
 use patch_options::{
-    WordFault, buffer_in, is_buffer, is_number, is_plan, is_sync, is_used, lasting_name_of,
-    number_in, plan_in, sync_in, value_of,
+    WordFault, buffer_in, is_buffer, is_plan, is_sync, is_used, lasting_name_of, number_in,
+    plan_in, sync_in, value_of,
 };
 use std::alloc::Global;
 
@@ -46,19 +47,17 @@ fn list_of(alloc: Global, matches: &ArgMatches<'_>) -> Result<ToolJob, WordFault
     ensures lawful { IfOk result (λ job. is_list (rows_in matches.now) ≡ true) }
     ensures refused { IfErr result (λ fault. (fault ≡ WordFault.Memory) ⊎ ((fault ≡ WordFault.Usage) × (is_list (rows_in matches.now) ≡ false))) }
 {
-    if !is_number(value_of(matches, "strip")) {
-        return Err(WordFault::Usage);
-    }
-    match read_subject(alloc, matches) {
-        Ok((input, select)) => Ok(ToolJob::List(ListJob {
-            input,
-            select,
-            status: is_used(matches, "status"),
-            numbers: is_used(matches, "line-number"),
-            shown_strip: number_or_0(matches, "strip"),
-        })),
+    match read_list(alloc, matches, is_empty_absent(matches)) {
+        Ok(job) => Ok(ToolJob::List(job)),
         Err(fault) => Err(fault),
     }
+}
+
+/// Whether a side is absent of which no hunk has a line.
+fn is_empty_absent(matches: &ArgMatches<'_>) -> bool
+    ensures { result ≡ is_empty_absent (rows_in matches.now) }
+{
+    is_used(matches, "empty-files-as-absent") || is_used(matches, "empty-files-as-removed")
 }
 
 /// The ranges of the hunks, of the lines and of the file patches that are meant.
@@ -166,15 +165,64 @@ fn grep_of(alloc: Global, matches: &ArgMatches<'_>) -> Result<ToolJob, WordFault
     let Some(output) = output_in(matches) else {
         return Err(WordFault::Usage);
     };
+    let Some(searched) = searched_in(matches) else {
+        return Err(WordFault::Usage);
+    };
+    if !is_one_kind(matches) {
+        return Err(WordFault::Usage);
+    }
     let pattern = String::from_str(alloc, pattern)?;
-    match read_subject(alloc, matches) {
-        Ok((input, select)) => Ok(ToolJob::Grep(GrepJob {
-            input,
-            select,
+    match read_list(alloc, matches, false) {
+        Ok(list) => Ok(ToolJob::Grep(GrepJob {
+            input: list.input,
+            select: list.select,
             pattern,
+            searched,
             output,
+            shown: list.shown,
         })),
         Err(fault) => Err(fault),
+    }
+}
+
+/// Whether names are shown, or hunks or file patches are written.
+fn is_one_kind(matches: &ArgMatches<'_>) -> bool
+    ensures { result ≡ is_one_kind (rows_in matches.now) }
+{
+    !(is_given(matches, "output-matching") && shows_names(matches))
+}
+
+/// Whether a word is given that only names have.
+fn shows_names(matches: &ArgMatches<'_>) -> bool
+    ensures { result ≡ shows_names (rows_in matches.now) }
+{
+    is_used(matches, "line-number") || is_one_given(matches, "strip", "addprefix")
+}
+
+/// Which lines are searched, if the word for it is lawful; all where there is no word.
+fn searched_in(matches: &ArgMatches<'_>) -> Option<Searched>
+    ensures searched { IfSome result (λ searched. searched ≡ unwrap_or (option_and_then searched_of (value_of (rows_in matches.now) (codes "only-match"))) Searched.All) }
+    ensures lawful { is_some result ≡ has_form is_searched (value_of (rows_in matches.now) (codes "only-match")) }
+{
+    match value_of(matches, "only-match") {
+        Some(text) => searched_of(text),
+        None => Some(Searched::All),
+    }
+}
+
+#[tactic(auto, unfolding(crate::specs::Asked::searched_of))]
+fn searched_of(text: &str) -> Option<Searched>
+    ensures { result ≡ searched_of text.now }
+{
+    match text {
+        "all" => Some(Searched::All),
+        "rem" => Some(Searched::Removed),
+        "removals" => Some(Searched::Removed),
+        "add" => Some(Searched::Added),
+        "additions" => Some(Searched::Added),
+        "mod" => Some(Searched::Changed),
+        "modifications" => Some(Searched::Changed),
+        _ => None,
     }
 }
 

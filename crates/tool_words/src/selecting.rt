@@ -85,13 +85,13 @@ pub fn number_or_0(matches: &ArgMatches<'_>, name: &str) -> u32
     }
 }
 
-fn is_given(matches: &ArgMatches<'_>, name: &str) -> bool
+pub fn is_given(matches: &ArgMatches<'_>, name: &str) -> bool
     ensures { result ≡ is_some (value_of (rows_in matches.now) name.now) }
 {
     value_of(matches, name).is_some()
 }
 
-fn is_one_given(matches: &ArgMatches<'_>, one: &str, other: &str) -> bool
+pub fn is_one_given(matches: &ArgMatches<'_>, one: &str, other: &str) -> bool
     ensures { result ≡ (is_some (value_of (rows_in matches.now) one.now) || is_some (value_of (rows_in matches.now) other.now)) }
 {
     is_given(matches, one) || is_given(matches, other)

@@ -65,12 +65,48 @@ const LINE_NUMBER: Word = Word {
     help: "show the number of the line of the names",
 };
 
+const VERBOSE: Word = Word {
+    form: WordForm::Switch,
+    letter: Some('v'),
+    name: "verbose",
+    shown: "-v, --verbose",
+    help: "with -n show the lines of hunks too",
+};
+
 const SHOWN_STRIP: Word = Word {
     form: WordForm::Value,
     letter: None,
     name: "strip",
     shown: "--strip=N",
     help: "show names without the front with N slashes (0)",
+};
+
+const ADD_PREFIX: Word = Word {
+    form: WordForm::Value,
+    letter: None,
+    name: "addprefix",
+    shown: "--addprefix=TEXT",
+    help: "show TEXT in front of names",
+};
+
+const EMPTY_ABSENT: Word = Word {
+    form: WordForm::Switch,
+    letter: Some('E'),
+    name: "empty-files-as-absent",
+    shown: "-E, --empty-files-as-absent",
+    help: concat!(
+        "with -s show + or - also for a file that is\n",
+        "                              ",
+        "empty before or after"
+    ),
+};
+
+const EMPTY_REMOVED: Word = Word {
+    form: WordForm::Switch,
+    letter: None,
+    name: "empty-files-as-removed",
+    shown: "--empty-files-as-removed",
+    help: "the same",
 };
 
 const HUNKS: Word = Word {
@@ -125,6 +161,18 @@ const MATCHING: Word = Word {
     ),
 };
 
+const ONLY_MATCH: Word = Word {
+    form: WordForm::Value,
+    letter: None,
+    name: "only-match",
+    shown: "--only-match=rem|add|mod|all",
+    help: concat!(
+        "search only removed, added, or removed and added\n",
+        "                              ",
+        "lines (all)"
+    ),
+};
+
 const EVERY: Word = Word {
     form: WordForm::Letter,
     letter: Some('a'),
@@ -146,7 +194,7 @@ const BUFFER: Word = Word {
     letter: None,
     name: "buffer",
     shown: "--buffer=N",
-    help: "bytes of a buffer, 512 to 1048576 (65536)",
+    help: "bytes of a buffer, 512 to 1048576 (auto: that)",
 };
 
 const SYNC: Word = Word {
@@ -236,7 +284,15 @@ const OPERATION: Word = Word {
 static LIST: [Group; 3] = [
     Group {
         heading: "What is shown:\n",
-        words: &[STATUS, LINE_NUMBER, SHOWN_STRIP],
+        words: &[
+            STATUS,
+            LINE_NUMBER,
+            VERBOSE,
+            SHOWN_STRIP,
+            ADD_PREFIX,
+            EMPTY_ABSENT,
+            EMPTY_REMOVED,
+        ],
     },
     Group {
         heading: "Which file patches:\n",
@@ -274,10 +330,21 @@ static FILTER: [Group; 4] = [
     },
 ];
 
-static GREP: [Group; 3] = [
+static GREP: [Group; 4] = [
     Group {
         heading: "Which file patches:\n",
-        words: &[STRIP_MATCH, INCLUDE, EXCLUDE],
+        words: &[
+            STRIP_MATCH,
+            INCLUDE,
+            EXCLUDE,
+            INCLUDE_FILE,
+            EXCLUDE_FILE,
+            ONLY_MATCH,
+        ],
+    },
+    Group {
+        heading: "How their names are shown:\n",
+        words: &[STATUS, LINE_NUMBER, VERBOSE, SHOWN_STRIP, ADD_PREFIX],
     },
     Group {
         heading: "Output:\n",

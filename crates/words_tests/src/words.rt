@@ -71,11 +71,11 @@ patch|-B|.ptmp => prefix: Some(".ptmp")
 patch|--reject-format|context => reject_form: Some(Context)
 patch|--reject-format=context => reject_form: Some(Context)
 patch|--reject-format=unified => reject_form: Some(Unified)
-patch|--plan|a => plan: Whole
-patch|--plan=a => plan: Whole
+patch|--plan|a => plan: Whole, buffer: 65536
+patch|--plan=a => plan: Whole, buffer: 65536
 patch|--plan=auto =>
-patch|--plan=b => plan: Padded
-patch|--plan|packed => plan: Packed
+patch|--plan=b => plan: Padded, buffer: 65536
+patch|--plan|packed => plan: Packed, buffer: 65536
 patch|f => file: Some("f")
 patch|f|p.diff => file: Some("f"), input: File("p.diff")
 patch|./a//f/ => file: Some("a/f")
@@ -158,9 +158,9 @@ patch|--fuzz|3 => fuzz: 3
 patch|-F007 => fuzz: 7
 patch|-F|4294967295 => fuzz: 4294967295
 patch|--buffer|512 => buffer: 512
-patch|--buffer=1048576 => buffer: 1048576
+patch|--buffer=1048576 =>
 patch|--buffer=000512 => buffer: 512
-patch|--buffer=65536 =>
+patch|--buffer=65536 => buffer: 65536
 patch|-p1|-p1 => strip: Some(1)
 patch|-p1|--strip=2 => strip: Some(2)
 patch|-p2|-Rp1 => strip: Some(1), reverse: true
@@ -172,7 +172,7 @@ patch|-F1|--fuzz|0 => fuzz: 0
 patch|-zx|--suffix=y => suffix: Some("y")
 patch|-i|a|--input=b => input: File("b")
 patch|-d|a|-d|. =>
-patch|--plan=a|--plan=b => plan: Padded
+patch|--plan=a|--plan=b => plan: Padded, buffer: 65536
 patch|--dry => dry_run: true
 patch|--dry-r|--rev|--st=1 => strip: Some(1), reverse: true, dry_run: true
 patch|--inp|a|--reject-fo=context|--qui => input: File("a"), reject_form: Some(Context), silent: true
@@ -189,22 +189,25 @@ patch|-o|- => output: Some("-")
 patch|--follow-symlinks => follow_links: true
 patch|-x3|--debug=1 =>
 patch|--sync|none|--sync=each =>
-lsdiff|-snp1|-i|a*|-xb|-Ic|-Xd|--strip=2|--skip-binary|e => Ok(List(ListJob { input: File("e"), select: Select { strip: 1, include: [[97, 42]], exclude: [[98]], include_file: Some("c"), exclude_file: Some("d"), only_included: true, skip_binary: true }, status: true, numbers: true, shown_strip: 2 }))
+lsdiff|-snp1|-i|a*|-xb|-Ic|-Xd|--strip=2|--skip-binary|e => Ok(List(ListJob { input: File("e"), select: Select { strip: 1, include: [[97, 42]], exclude: [[98]], include_file: Some("c"), exclude_file: Some("d"), only_included: true, skip_binary: true }, shown: Shown { numbers: true, hunks: false, status: true, empty_absent: false, strip: 2, prefix: [] } }))
+lsdiff|-nvE|-p1|--addprefix=ab => Ok(List(ListJob { input: Standard, select: Select { strip: 1, include: [], exclude: [], include_file: None, exclude_file: None, only_included: false, skip_binary: false }, shown: Shown { numbers: true, hunks: true, status: false, empty_absent: true, strip: 1, prefix: [97, 98] } }))
+lsdiff|-v|-p1|-ia|--empty-files-as-removed => Ok(List(ListJob { input: Standard, select: Select { strip: 1, include: [[97]], exclude: [], include_file: None, exclude_file: None, only_included: true, skip_binary: false }, shown: Shown { numbers: false, hunks: false, status: false, empty_absent: true, strip: 0, prefix: [] } }))
 filterdiff|--hunks=1,2-5|--lines=-3|--files|7-|--format=ed => Ok(Filter(FilterJob { input: Standard, select: Select { strip: 0, include: [], exclude: [], include_file: None, exclude_file: None, only_included: false, skip_binary: false }, hunks: Some(Ranges { items: [(1, 1), (2, 5)] }), lines: Some(Ranges { items: [(1, 3)] }), files: Some(Ranges { items: [(7, 4294967295)] }), format: Some(Ed) }))
-grepdiff|-E|--output-matching=hunk|[a-z]+|f => Ok(Grep(GrepJob { input: File("f"), select: Select { strip: 0, include: [], exclude: [], include_file: None, exclude_file: None, only_included: false, skip_binary: false }, pattern: "[a-z]+", output: Hunks }))
+grepdiff|-E|--output-matching=hunk|[a-z]+|f => Ok(Grep(GrepJob { input: File("f"), select: Select { strip: 0, include: [], exclude: [], include_file: None, exclude_file: None, only_included: false, skip_binary: false }, pattern: "[a-z]+", searched: All, output: Hunks, shown: Shown { numbers: false, hunks: false, status: false, empty_absent: false, strip: 0, prefix: [] } }))
+grepdiff|-nvs|-Xd|--strip=1|--addprefix=a|--only-match=additions|x => Ok(Grep(GrepJob { input: Standard, select: Select { strip: 0, include: [], exclude: [], include_file: None, exclude_file: Some("d"), only_included: false, skip_binary: false }, pattern: "x", searched: Added, output: Names, shown: Shown { numbers: true, hunks: true, status: true, empty_absent: false, strip: 1, prefix: [97] } }))
 splitdiff|-a|./a//f/ => Ok(Split(SplitJob { input: "a/f", every: true, skip_binary: false, sync: Each }))
 splitdiff|--skip-binary|f => Ok(Split(SplitJob { input: "f", every: false, skip_binary: true, sync: Each }))
 recountdiff|- => Ok(Recount(Standard))
-patchgen|0|1|20 => Ok(Gen(GenJob { seed: 0, files: 1, lines: 20, plan: Auto, buffer: 65536, sync: Each }))
-patchgen|4294967295|1|20 => Ok(Gen(GenJob { seed: 4294967295, files: 1, lines: 20, plan: Auto, buffer: 65536, sync: Each }))
-patchgen|7|1000|10000 => Ok(Gen(GenJob { seed: 7, files: 1000, lines: 10000, plan: Auto, buffer: 65536, sync: Each }))
-patchgen|0|1|9999999 => Ok(Gen(GenJob { seed: 0, files: 1, lines: 9999999, plan: Auto, buffer: 65536, sync: Each }))
-patchgen|0|2|5000000 => Ok(Gen(GenJob { seed: 0, files: 2, lines: 5000000, plan: Auto, buffer: 65536, sync: Each }))
-patchgen|007|001|0020 => Ok(Gen(GenJob { seed: 7, files: 1, lines: 20, plan: Auto, buffer: 65536, sync: Each }))
+patchgen|0|1|20 => Ok(Gen(GenJob { seed: 0, files: 1, lines: 20, plan: Auto, buffer: 1048576, sync: Each }))
+patchgen|4294967295|1|20 => Ok(Gen(GenJob { seed: 4294967295, files: 1, lines: 20, plan: Auto, buffer: 1048576, sync: Each }))
+patchgen|7|1000|10000 => Ok(Gen(GenJob { seed: 7, files: 1000, lines: 10000, plan: Auto, buffer: 1048576, sync: Each }))
+patchgen|0|1|9999999 => Ok(Gen(GenJob { seed: 0, files: 1, lines: 9999999, plan: Auto, buffer: 1048576, sync: Each }))
+patchgen|0|2|5000000 => Ok(Gen(GenJob { seed: 0, files: 2, lines: 5000000, plan: Auto, buffer: 1048576, sync: Each }))
+patchgen|007|001|0020 => Ok(Gen(GenJob { seed: 7, files: 1, lines: 20, plan: Auto, buffer: 1048576, sync: Each }))
 patchgen|--plan=a|0|1|20 => Ok(Gen(GenJob { seed: 0, files: 1, lines: 20, plan: Whole, buffer: 65536, sync: Each }))
 patchgen|--plan|b|0|1|20 => Ok(Gen(GenJob { seed: 0, files: 1, lines: 20, plan: Padded, buffer: 65536, sync: Each }))
 patchgen|0|1|20|--plan=packed => Ok(Gen(GenJob { seed: 0, files: 1, lines: 20, plan: Packed, buffer: 65536, sync: Each }))
-patchgen|0|--plan=auto|1|20 => Ok(Gen(GenJob { seed: 0, files: 1, lines: 20, plan: Auto, buffer: 65536, sync: Each }))
+patchgen|0|--plan=auto|1|20 => Ok(Gen(GenJob { seed: 0, files: 1, lines: 20, plan: Auto, buffer: 1048576, sync: Each }))
 patchgen|--buffer=512|0|1|20 => Ok(Gen(GenJob { seed: 0, files: 1, lines: 20, plan: Auto, buffer: 512, sync: Each }))
 patchgen|--buffer|1048576|0|1|20 => Ok(Gen(GenJob { seed: 0, files: 1, lines: 20, plan: Auto, buffer: 1048576, sync: Each }))
 patchgen|--plan=b|--buffer=4096|7|3|40 => Ok(Gen(GenJob { seed: 7, files: 3, lines: 40, plan: Padded, buffer: 4096, sync: Each }))
@@ -213,5 +216,5 @@ patchstack|pop => Ok(Stack(StackJob { op: Pop, sync: Each }))
 patchstack|--sy=none|push => Ok(Stack(StackJob { op: Push, sync: Never }))
 patchgen|--pl=a|--plan=b|0|1|20|--sync=none => Ok(Gen(GenJob { seed: 0, files: 1, lines: 20, plan: Padded, buffer: 65536, sync: Never }))
 splitdiff|-aa|--skip|--skip-binary|--sync=none|f => Ok(Split(SplitJob { input: "f", every: true, skip_binary: true, sync: Never }))
-lsdiff|-ss|--li|--strip=1|--strip=2|-p3|-p4|-ia|--include=b|-Ic|-Id|e => Ok(List(ListJob { input: File("e"), select: Select { strip: 4, include: [[97], [98]], exclude: [], include_file: Some("d"), exclude_file: None, only_included: true, skip_binary: false }, status: true, numbers: true, shown_strip: 2 }))
+lsdiff|-ss|--li|--strip=1|--strip=2|-p3|-p4|-ia|--include=b|-Ic|-Id|e => Ok(List(ListJob { input: File("e"), select: Select { strip: 4, include: [[97], [98]], exclude: [], include_file: Some("d"), exclude_file: None, only_included: true, skip_binary: false }, shown: Shown { numbers: true, hunks: false, status: true, empty_absent: false, strip: 2, prefix: [] } }))
 "#;

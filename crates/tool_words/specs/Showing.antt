@@ -1,0 +1,34 @@
+-- How a list shows file patches, over what `clap` matched.
+use Rattle.std.specs.Prelude.{ℕ, List, [], codes, Bool, ◌&&◌, ◌||◌, if◌then◌else◌, is_some, unwrap_or}
+use Rattle.clap.specs.Words.{Row}
+use Rattle.patch_options.specs.Table.{is_used, value_of, has_form}
+use Rattle.tool_words.specs.PlainJobs.{PlainShown}
+use Rattle.tool_words.specs.Selecting.{is_number, number_or_0}
+
+abbrev pub is_shown : List Row → Bool
+is_shown rows = has_form is_number (value_of rows (codes "strip"))
+
+abbrev pub is_one_given : List Row → List ℕ → List ℕ → Bool
+is_one_given rows one other = is_some (value_of rows one) || is_some (value_of rows other)
+
+-- file patches are meant by patterns
+abbrev pub has_patterns : List Row → Bool
+has_patterns rows = is_one_given rows (codes "include") (codes "exclude") || is_one_given rows (codes "include-from-file") (codes "exclude-from-file")
+
+-- what is stripped from a name that is shown: without `--strip`, and without patterns that `-p` could be for, `-p` says it
+unfoldable pub shown_strip : List Row → ℕ
+shown_strip rows = if is_some (value_of rows (codes "strip")) || has_patterns rows then number_or_0 rows (codes "strip") else number_or_0 rows (codes "strip-match")
+
+-- a line for each hunk, which has a number in front, is asked for by two words
+abbrev pub shows_hunks : List Row → Bool
+shows_hunks rows = is_used rows (codes "line-number") && is_used rows (codes "verbose")
+
+abbrev pub shown_of : List Row → Bool → PlainShown
+shown_of rows empty_absent = record {
+  numbers = is_used rows (codes "line-number");
+  hunks = shows_hunks rows;
+  status = is_used rows (codes "status");
+  empty_absent = empty_absent;
+  strip = shown_strip rows;
+  prefix = unwrap_or (value_of rows (codes "addprefix")) [];
+}
