@@ -9,6 +9,7 @@
 #               minutes each, NAMES='NAME ..' takes those alone, and tests/mutants --list says which script sees what
 # make peers    runs the suites of GNU patch, patchutils and quilt over what was built, beside the list of what fails there (tests/peers/expected);
 #               with PEER=gnu over GNU patch and patchutils themselves
+# make bench    draws bench/curve.svg: how time and memory grow, beside GNU patch; ten minutes on a quiet machine
 # make install  installs the program, its manual and completions below PREFIX, with those of the tools and their names in lib/patchkit, where
 #               they hide no other's; without rt the program that was built before
 # make install-links  puts the tools' names, pages and completions beside all others below PREFIX; says which programs of the path they hide
@@ -21,7 +22,7 @@ DESTDIR ?=
 TOOLS = patch lsdiff filterdiff grepdiff splitdiff recountdiff reversediff patchgen patchstack
 BIN = build/bin
 
-.PHONY: all demo try test times deep mutants peers install install-links uninstall dist deb clean
+.PHONY: all demo try test times deep mutants peers bench install install-links uninstall dist deb clean
 
 all:
 	@sh tests/build $(RT) $(BIN) $(TOOLS)
@@ -64,6 +65,9 @@ mutants:
 
 peers:
 	@PEER=$(PEER) python3 tests/peers/run $(BIN)
+
+bench:
+	@python3 bench/curve $(BIN)
 
 install:
 	@sh tests/build --there $(RT) $(BIN) $(TOOLS)
