@@ -9,7 +9,7 @@ use Rattle.line_store.specs.declared.fault.OpenFault.TheVariants as open_fault
 use Rattle.file_patch.specs.PlainPatch.{PlainPatch}
 use Rattle.patch_options.specs.Table.{uses}
 use Rattle.patch_text.specs.Patches.{patches_of}
-use Rattle.patch_set.specs.Asked.{ways_of}
+use Rattle.patch_set.specs.Asked.{skips_binary, ways_of}
 use Rattle.patch_set.specs.Refusals.{refusal}
 use Rattle.patch_set.specs.declared.fault.SetFault.{SetFault}
 use Rattle.patch_set.specs.declared.fault.SetFault.TheVariants as set
@@ -54,7 +54,7 @@ run_line j r hushed is =
     ap (λ (l : List ℕ). l ++ summary_if r.stop (summary j r)) (hushed well.1 well.0) ∙ ap (λ s. summary_if s (summary j r)) well.0
 
 -- the options of `patchgen` don't ask that binary changes be passed over
-asks_none : (j : PlainGenJob) → (options_for j).skip_binary ≡ false
+asks_none : (j : PlainGenJob) → skips_binary (options_for j) ≡ false
 unfolding uses
 asks_none j = refl
 

@@ -15,13 +15,14 @@ use Rattle.name_choice.specs.Choice.{side_of}
 use Rattle.name_choice.specs.declared.Choice.{Choice}
 use Rattle.name_choice.specs.declared.Choice.TheVariants.{Existing, Create, Nothing}
 use Rattle.patch_options.specs.PlainJob.{PlainOptions}
-use Rattle.patch_set.specs.Asked.{ways_of}
+use Rattle.patch_set.specs.Asked.{skips_binary, ways_of}
+use Rattle.patch_set.specs.declared.skipped.BinaryChange.{BinaryChange}
 use Rattle.patch_set.specs.Named.{known_names, output_of}
-use Rattle.patch_set.specs.Skipped.{skipped_lines}
-use Rattle.say_text.specs.Messages.{silenced, skipping_lines, reversed_line, not_deleting_line, failures_line}
+use Rattle.patch_set.specs.Skipped.{skipped_changes}
+use Rattle.say_text.specs.Messages.{silenced, reversed_line, not_deleting_line, failures_line}
 use Rattle.file_patch.specs.declared.derived.Target.{Target}
 use Rattle.say_text.specs.declared.standing.Standing.{Standing}
-use Rattle.patch_run.specs.OnePatch.{Item, PlainTurn, Tried, hunk_said, hunks_said, script_said, change_said, Start, skips, refuses, tries, Ending, ended, stopped, said_first, skips_at, lines_in, first_hunk, is_reversed, turns_round, on_direction, lacks_word, prereq_said, on_prereq, refusal_of, refused_or, on_taking, unfit, unfit_said, on_misfit, is_forced, on_fitting, on_file, patching_said, on_target, on_choice, choice_of, is_first, skipped_said, own_start, start, bytes_of, some_failed, failed, total, named_reject, is_kept, kept_said, failures_said, tried_said, shown, written, tried, ending_of, ending}
+use Rattle.patch_run.specs.OnePatch.{Item, PlainTurn, Tried, hunk_said, hunks_said, script_said, change_said, Start, skips, refuses, tries, Ending, ended, stopped, said_first, skips_at, lines_in, first_hunk, is_reversed, turns_round, on_direction, lacks_word, prereq_said, on_prereq, refusal_of, refused_or, on_taking, unfit, unfit_said, on_misfit, is_forced, on_fitting, on_file, patching_said, on_target, on_choice, choice_of, is_first, changes_said, skipped_said, fails_first, own_start, start, bytes_of, some_failed, failed, total, named_reject, is_kept, kept_said, failures_said, tried_said, shown, written, tried, ending_of, ending}
 use Rattle.patch_run.specs.Run.{Run, begun, turn_of, with_ending, if_going, with_item, run_on}
 use Rattle.patch_run.specs.Outcome.{moved_for, item_for, run_for}
 
@@ -91,9 +92,9 @@ mute_choice t f Nothing silent = tt
 
 -- where no binary change is passed over, none is told
 skipped_none : (t : PlainTurn) → t.item.skipped ≡ [] → skipped_said t ≡ []
-unfolding skipping_lines
-skipped_none t none = elim (is_first t.past) as (λ (b : Bool). (if b then skipping_lines t.item.skipped else []) ≡ []) [
-  | true ↦ ap skipping_lines none
+unfolding changes_said
+skipped_none t none = elim (is_first t.past) as (λ (b : Bool). (if b then changes_said t.options t.item.skipped else []) ≡ []) [
+  | true ↦ ap (changes_said t.options) none
   | false ↦ refl
 ]
 
@@ -150,7 +151,7 @@ ending_mute t f (refuses said fault) silent mute = tt
 ending_mute t f (tries said place side) silent mute =
     let w = written t place in
     let x = tried t side (lines_in (bytes_of t f place)) in
-    λ good. ap (λ (l : List ℕ). l ++ tried_said t w x) mute ∙ tried_none t w x silent good
+    λ good. ap (λ (l : List ℕ). l ++ tried_said t w x) mute ∙ tried_none t w x silent (or_false (some_failed x.verdicts || is_kept t x) (fails_first t) good).0
 
 patch_mute : (t : PlainTurn) (f : Files) → t.options.silent ≡ true → t.item.skipped ≡ [] → IsMute (ending t f)
 unfolding ending
@@ -176,20 +177,20 @@ item_hushed o output r i silent none hushed =
       | Some fault ↦ λ stop. hushed
     ] refl
 
-run_hushed : (o : PlainOptions) (output : Option Target) (known : List (List ℕ)) (skipped : List ℕ) (moved : List (List Target)) (ps : List PlainPatch) (r : Run) → o.silent ≡ true → skipped ≡ [] → IsHushed r
+run_hushed : (o : PlainOptions) (output : Option Target) (known : List (List ℕ)) (skipped : List BinaryChange) (moved : List (List Target)) (ps : List PlainPatch) (r : Run) → o.silent ≡ true → skipped ≡ [] → IsHushed r
     → IsHushed (run_on o output (map (item_for o known skipped moved) ps) r)
 unfolding run_on
 run_hushed o output known skipped moved [] r silent none hushed = hushed
 run_hushed o output known skipped moved (p ∷ ps) r silent none hushed =
     run_hushed o output known skipped moved ps (with_item o output r (item_for o known skipped moved p)) silent none (item_hushed o output r (item_for o known skipped moved p) silent none hushed)
 
-none_if : (b : Bool) (l : List ℕ) → b ≡ false → (if b then l else []) ≡ []
+none_if : (b : Bool) (l : List BinaryChange) → b ≡ false → (if b then l else []) ≡ []
 none_if b l not = ap (λ (x : Bool). if x then l else []) not
 
--- without `--skip-binary` no binary change is passed over
-none_skipped : (o : PlainOptions) (text : List ℕ) → o.skip_binary ≡ false → skipped_lines (ways_of o) text ≡ []
-unfolding skipped_lines
-none_skipped o text not = none_if o.skip_binary _ not
+-- without `-f`, `-t` and `--skip-binary` no binary change is passed over
+none_skipped : (o : PlainOptions) (text : List ℕ) → skips_binary o ≡ false → skipped_changes (ways_of o) text ≡ []
+unfolding skipped_changes
+none_skipped o text not = none_if (skips_binary o) _ not
 
-pub silent_for : (o : PlainOptions) (text : List ℕ) (ps : List PlainPatch) (f : Files) → o.silent ≡ true → o.skip_binary ≡ false → IsHushed (run_for o text ps f)
-silent_for o text ps f silent not = run_hushed o (output_of o (known_names o ps)) (known_names o ps) (skipped_lines (ways_of o) text) (map (moved_for o (known_names o ps)) ps) ps (begun f) silent (none_skipped o text not) (λ good on. refl)
+pub silent_for : (o : PlainOptions) (text : List ℕ) (ps : List PlainPatch) (f : Files) → o.silent ≡ true → skips_binary o ≡ false → IsHushed (run_for o text ps f)
+silent_for o text ps f silent not = run_hushed o (output_of o (known_names o ps)) (known_names o ps) (skipped_changes (ways_of o) text) (map (moved_for o (known_names o ps)) ps) ps (begun f) silent (none_skipped o text not) (λ good on. refl)

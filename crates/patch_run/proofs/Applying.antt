@@ -24,7 +24,7 @@ use Rattle.patch_set.specs.declared.set.Row.{Row}
 use Rattle.patch_run.specs.declared.one_patch.Done.{Done}
 use Rattle.patch_task.specs.declared.placed.Made.{Made}
 use Rattle.patch_task.specs.TaskView.{with_past}
-use Rattle.patch_run.specs.OnePatch.{Mark, PlainTurn, Tried, bytes_of, output_on, tried, some_failed, is_kept, finished, effects_of, tried_said, wrote}
+use Rattle.patch_run.specs.OnePatch.{Mark, PlainTurn, Tried, bytes_of, output_on, tried, some_failed, is_kept, fails_first, finished, effects_of, tried_said, wrote}
 use Rattle.patch_run.specs.Run.{cleared}
 use Rattle.patch_task.specs.Making.{IsGone, IsPart, Makes}
 use Rattle.patch_task.specs.Named.{IsNamed}
@@ -251,7 +251,7 @@ module _ (t : PlainTurn) (f : Files) (s w : Target) (side : Side) (ls : List (Li
   pub tried_done : {z : TreeView} {c d : SinkView} (place : ℕ) (made : Made) (done : Done) → ((g : Files) → v.told ≡ Some g → t.options.dry_run ≡ true → g ≡ f)
       → ((g : Files) (x : Tried) → v.told ≡ Some g → IsOutcome t.options.dry_run v session w.temp side vs x → IsMadeWhole t g s w x made v z c d)
       → done.row ≡ record { side = side; target = Some place; wrote = made.wrote }
-      → ((x : Tried) → x.side ≡ side → IsSession session x.verdicts x.text → done.is_bad ≡ (some_failed x.verdicts || is_kept t x))
+      → ((x : Tried) → x.side ≡ side → IsSession session x.verdicts x.text → done.is_bad ≡ ((some_failed x.verdicts || is_kept t x) || fails_first t))
       → done.effects ≡ made.effects
       → IsDone u z c d done vs f (finished t f [] place (bytes_of t f place) s w (tried t side ls))
   tried_done place made done same whole row bad effects =

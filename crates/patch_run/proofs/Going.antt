@@ -18,6 +18,7 @@ use Rattle.line_store.specs.Taking.{KeepsPlan}
 use Rattle.patch_options.specs.PlainJob.{PlainOptions}
 use Rattle.file_patch.specs.declared.derived.Target.{Target}
 use Rattle.patch_set.specs.declared.set.Row.{Row}
+use Rattle.patch_set.specs.declared.skipped.BinaryChange.{BinaryChange}
 use Rattle.patch_set.specs.SetView.{SetView, hunks_in, with_row}
 use Rattle.patch_task.specs.declared.fault.RunFault.{RunFault}
 use Rattle.patch_task.specs.declared.fault.RunFault.TheVariants.{Tree, Write, Scratch, LongLine, FileTooLong, Disagree, Memory}
@@ -193,7 +194,7 @@ module _ (o : PlainOptions) (v : SetView) (k : ℕ) (p : FilePatch) (vs ws : Lis
 pub same-items : (old new : SetView) → StaysSet old new → items_of new ≡ items_of old
 same-items old new stays =
     ap (λ (l : List ℕ). map (item_of l new.skipped (moved_in new.patches)) new.patches) stays.text
-    ∙ ap (λ (l : List ℕ). map (item_of old.text l (moved_in new.patches)) new.patches) stays.skipped
+    ∙ ap (λ (l : List BinaryChange). map (item_of old.text l (moved_in new.patches)) new.patches) stays.skipped
     ∙ ap (λ (l : List FilePatch). map (item_of old.text old.skipped (moved_in l)) l) stays.patches
 
 pub same-run : (o : PlainOptions) (old new : SetView) (f : Files) → StaysSet old new → set_run o new f ≡ set_run o old f

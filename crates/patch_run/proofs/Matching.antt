@@ -9,6 +9,7 @@ use Rattle.file_patch.specs.Actions.{is_moved}
 use Rattle.file_patch.specs.PlainPatch.{PlainPatch, header_of, patch_of}
 use Rattle.patch_options.specs.PlainJob.{PlainOptions}
 use Rattle.patch_set.specs.Named.{known_names, output_of, targets_of}
+use Rattle.patch_set.specs.declared.skipped.BinaryChange.{BinaryChange}
 use Rattle.patch_set.specs.SetView.{SetView, plain_patches, IsRead}
 use Rattle.patch_task.specs.Ready.{moved_of}
 use Rattle.patch_task.specs.declared.fault.RunFault.{RunFault}
@@ -17,7 +18,7 @@ use Rattle.patch_run.specs.Run.{run_of, set_run, item_of, moved_in, items_of}
 use Rattle.patch_run.specs.Doing.{IsCutAt}
 use Rattle.patch_run.specs.Outcome.{moved_for, item_for, items_for, run_for}
 
-abbrev item_with : List ℕ → List (List Target) → PlainPatch → List Target → Item
+abbrev item_with : List BinaryChange → List (List Target) → PlainPatch → List Target → Item
 item_with skipped moved p targets = record { patch = p; targets = targets; skipped = skipped; moved = moved }
 
 module _ (o : PlainOptions) (known : List (List ℕ)) (text : List ℕ) where
@@ -26,7 +27,7 @@ module _ (o : PlainOptions) (known : List (List ℕ)) (text : List ℕ) where
   given p = targets_of o known (header_of text p.header)
 
   -- file patches with the targets that their headers give
-  items-match : (skipped : List ℕ) (moved : List (List Target)) (ps : List FilePatch) → map (λ p. p.targets.items) ps ≡ map given ps
+  items-match : (skipped : List BinaryChange) (moved : List (List Target)) (ps : List FilePatch) → map (λ p. p.targets.items) ps ≡ map given ps
       → map (item_for o known skipped moved) (map (patch_of text) ps) ≡ map (item_of text skipped moved) ps
   items-match skipped moved [] same = refl
   items-match skipped moved (p ∷ ps) same =
@@ -48,7 +49,7 @@ module _ (o : PlainOptions) (given : List ℕ) (v : SetView) (read : IsRead o gi
   items-read : items_for o v.text (plain_patches v) ≡ items_of v
   items-read =
       let known = known_names o (plain_patches v) in
-      ap (λ (l : List ℕ). map (item_for o known l (map (moved_for o known) (plain_patches v))) (plain_patches v)) (sym read.skipped)
+      ap (λ (l : List BinaryChange). map (item_for o known l (map (moved_for o known) (plain_patches v))) (plain_patches v)) (sym read.skipped)
       ∙ ap (λ (l : List (List Target)). map (item_for o known v.skipped l) (plain_patches v)) (moved-match o known v.text v.patches read.names.targets)
       ∙ items-match o known v.text v.skipped (moved_in v.patches) v.patches read.names.targets
 

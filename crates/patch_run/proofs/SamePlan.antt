@@ -9,7 +9,8 @@ use Rattle.patch_options.specs.PlainJob.{PlainOptions}
 use Rattle.patch_options.specs.declared.options.PlanKind.{PlanKind}
 use Rattle.file_patch.specs.declared.derived.Target.{Target}
 use Rattle.patch_set.specs.Refusals.{refusal}
-use Rattle.patch_run.specs.OnePatch.{Item, PlainTurn, Tried, is_reversed, start, hunk_said, hunks_said, tried_said, mark_of, effects_of, wrote, ending}
+use Rattle.patch_set.specs.declared.skipped.BinaryChange.{BinaryChange}
+use Rattle.patch_run.specs.OnePatch.{Item, PlainTurn, Tried, is_reversed, start, changes_said, hunk_said, hunks_said, tried_said, mark_of, effects_of, wrote, ending}
 use Rattle.patch_run.specs.Run.{Run, turn_of, with_item, run_on}
 use Rattle.patch_run.specs.Outcome.{with_plan}
 
@@ -23,9 +24,13 @@ module _ (plan : PlanKind) where
   reversed_same : (o : PlainOptions) (ls : List (List ℕ)) (side : Side) (h : Option PlainHunk) → is_reversed (with_plan plan o) ls side h ≡ is_reversed o ls side h
   reversed_same o ls side h = grind arith
 
+  changes_same : (o : PlainOptions) (cs : List BinaryChange) → changes_said (with_plan plan o) cs ≡ changes_said o cs
+  unfolding changes_said
+  changes_same o cs = refl
+
   start_same : (t : PlainTurn) (f : Files) → start (replanned t) f ≡ start t f
   unfolding start
-  start_same t f = grind (arith, reversed_same t.options)
+  start_same t f = grind (arith, reversed_same t.options, changes_same t.options t.item.skipped)
 
   hunk_same : (o : PlainOptions) (number : ℕ) (moved : ℤ) (h : PlainHunk) (v : Verdict) → hunk_said (with_plan plan o) number moved h v ≡ hunk_said o number moved h v
   hunk_same o number moved h v = grind arith

@@ -9,7 +9,8 @@ use Rattle.patch_options.specs.PlainJob.{PlainOptions}
 use Rattle.patch_options.specs.declared.options.PlanKind.{PlanKind}
 use Rattle.patch_set.specs.Asked.{ways_of}
 use Rattle.patch_set.specs.Named.{known_names, targets_of, output_of}
-use Rattle.patch_set.specs.Skipped.{skipped_lines}
+use Rattle.patch_set.specs.declared.skipped.BinaryChange.{BinaryChange}
+use Rattle.patch_set.specs.Skipped.{skipped_changes}
 use Rattle.patch_task.specs.Asking.{moves}
 use Rattle.patch_task.specs.Faults.{of_open}
 use Rattle.patch_run.specs.Applied.{Receipt}
@@ -39,12 +40,12 @@ abbrev pub moved_for : PlainOptions → List (List ℕ) → PlainPatch → List 
 moved_for o known p = if moves p then targets_of o known p.header else []
 
 -- a file patch with its targets, whose numbers are their places among the known names, the binary changes that are passed over, and the files that are renamed or copied
-abbrev pub item_for : PlainOptions → List (List ℕ) → List ℕ → List (List Target) → PlainPatch → Item
+abbrev pub item_for : PlainOptions → List (List ℕ) → List BinaryChange → List (List Target) → PlainPatch → Item
 item_for o known skipped moved p = record { patch = p; targets = targets_of o known p.header; skipped = skipped; moved = moved }
 
 -- those of a text
 abbrev pub items_for : PlainOptions → List ℕ → List PlainPatch → List Item
-items_for o text ps = map (item_for o (known_names o ps) (skipped_lines (ways_of o) text) (map (moved_for o (known_names o ps)) ps)) ps
+items_for o text ps = map (item_for o (known_names o ps) (skipped_changes (ways_of o) text) (map (moved_for o (known_names o ps)) ps)) ps
 
 -- the file patches of a text one after another
 abbrev pub run_for : PlainOptions → List ℕ → List PlainPatch → Files → Run

@@ -31,7 +31,8 @@ impl Applied {
         }
     }
 
-    /// 1 where a hunk failed, a file patch was skipped, also one without hunks, or a file that was to be deleted wasn't; else 0.
+    /// 1 where a hunk failed, a file patch was skipped, also one without hunks, a file that was to be deleted wasn't, or an image
+    /// isn't put in; else 0.
     pub fn status(&self) -> u8
         ensures { result ≡ (if self.now.is_bad then 1 else 0) }
     {

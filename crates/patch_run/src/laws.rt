@@ -1,6 +1,6 @@
 //! What the definition of a run says, in words of its own.
 
-ghost use Rattle.std.specs.Prelude.{◌≡◌, ◌≢◌, ◌⊎◌, ◌↔◌, ℕ, List, [], ◌∷◌, ◌++◌, true, false, Option, Some};
+ghost use Rattle.std.specs.Prelude.{◌≡◌, ◌≢◌, ◌⊎◌, ◌↔◌, ℕ, List, [], ◌∷◌, ◌++◌, true, false, Option, Some, None};
 ghost use Rattle.std.specs.List.{AllByRecursion, list_any};
 ghost use Rattle.std.specs.FinMap.{get};
 ghost use Rattle.outside.specs.Files.{Files, is_temp};
@@ -8,7 +8,7 @@ ghost use Rattle.outside.specs.Quiet.{after_all};
 ghost use Rattle.patch_task.specs.Named.{IsNamed};
 ghost use Rattle.patch_task.specs.TargetEffects.{backup_effects};
 ghost use Rattle.patch_options.specs.PlainJob.{PlainOptions};
-ghost use Rattle.say_text.specs.Messages.{skipping_lines};
+ghost use Rattle.patch_start.specs.Skipping.{changes_said, has_failing};
 ghost use Rattle.name_choice.specs.declared.Choice.TheVariants.{Nothing};
 ghost use Rattle.line_list.specs.Lines.{lines};
 ghost use Rattle.hunk_core.specs.declared.Side.{Side};
@@ -24,8 +24,8 @@ ghost use Rattle.patch_run.specs.Laws.{IsSkip, is_skipped, goes_over_needed, IsI
 /// applied before and isn't turned round, or a word is missing. It then has no effect, and each of its hunks is
 /// ignored. A dry run has no effect, and leaves the files as they are. Once a file patch has made or taken away a name, none
 /// behind it in the run backs that name up. A file that is renamed has its new bytes at its new name, and nothing is left at
-/// the old one. A file patch without hunks leaves the bytes of its file as they are. A run says before anything else which
-/// binary changes are passed over.
+/// the old one. A file patch without hunks leaves the bytes of its file as they are. A run says before anything else what
+/// becomes of binary changes, and is bad where one of them fails.
 pub fn run_laws()
     ensures skipped { (t : PlainTurn) (files : Files) → IsSkip (start t files) → IsIgnored (ending t files) }
     ensures unsuited { (t : PlainTurn) (files : Files) → IsSkip (start t files) ↔ (is_skipped t files (choice_of t files) ≡ true) }
@@ -39,7 +39,9 @@ pub fn run_laws()
     ensures renamed { (t : PlainTurn) (files : Files) (s w : Target) (x : Tried) → IsNamed w → is_moving t files s w ≡ true → is_written t x ≡ true
         → IsRenamed (after_all (written_effects t files s w x) files) s w x.output }
     ensures told { (o : PlainOptions) (output : Option Target) (i : Item) (items : List Item) (files : Files)
-        → (more : List ℕ) × ((run_of o output (i ∷ items) files).said ≡ skipping_lines i.skipped ++ more) }
+        → (more : List ℕ) × ((run_of o output (i ∷ items) files).said ≡ changes_said o i.skipped ++ more) }
+    ensures failing { (o : PlainOptions) (output : Option Target) (i : Item) (items : List Item) (files : Files)
+        → has_failing o i.skipped ≡ true → (run_of o output (i ∷ items) files).stop ≡ None → (run_of o output (i ∷ items) files).is_bad ≡ true }
     ensures bare { (t : PlainTurn) (side : Side) (bytes : List ℕ) → is_bare t.item.patch ≡ true → (tried t side (lines bytes)).text ≡ bytes }
     ensures same { (o : PlainOptions) (output : Option Target) (items : List Item) (files : Files) → o.dry_run ≡ true → (run_of o output items files).files ≡ files }
 {}

@@ -11,7 +11,7 @@ ghost use Rattle.line_store.specs.Store.{Keeps};
 ghost use Rattle.patch_task.specs.Outputs.{verdicts_over};
 ghost use Rattle.hunk_apply.specs.Session.{IsTried};
 ghost use Rattle.file_patch.specs.PlainPatch.{row_count};
-ghost use Rattle.patch_run.specs.OnePatch.{Tried, ignored_said, bytes_of, lines_in, effects_of, tried_said, some_failed, is_kept, finished_at, ending};
+ghost use Rattle.patch_run.specs.OnePatch.{Tried, ignored_said, bytes_of, lines_in, effects_of, tried_said, some_failed, is_kept, fails_first, finished_at, ending};
 ghost use Rattle.patch_task.specs.Outputs.{IsSession};
 ghost use Rattle.patch_start.specs.Trying.{IsBegun};
 ghost use Rattle.patch_run.specs.Doing.{Does, Stays, QuietAfter, IsDone, IsPartOf, IsDeviceFault, HasEndCause, IsOutcome, IsMadeWhole, IsOrdered};
@@ -27,7 +27,7 @@ use line_store::{LineStore, Plan};
 use outside::{Failed, Sink, Tree};
 use patch_outcome::{Turn, is_kept, make_effects, tell};
 use patch_set::Row;
-use patch_start::{Attempt, Decision, start, try_hunks};
+use patch_start::{Attempt, Decision, fails_first, start, try_hunks};
 use patch_task::{Made, RunFault, chosen, is_bare, written};
 use say_text::say_ignored;
 
@@ -35,7 +35,8 @@ use say_text::say_ignored;
 #[derive(Clone, Copy)]
 pub struct Done {
     pub row: Row,
-    /// A hunk failed, the file patch was skipped, also one without hunks, or a file that was to be deleted wasn't.
+    /// A hunk failed, the file patch was skipped, also one without hunks, a file that was to be deleted wasn't, or a binary
+    /// change failed in front of it.
     pub is_bad: bool,
     /// How many effects there were.
     pub effects: u64,
@@ -204,7 +205,7 @@ fn tell_and_make<T: Tree, O: Sink>(
 fn done_of(turn: &Turn<'_>, place: u32, side: Side, session: &Session, made: Made) -> Done
     requires turn { IsTurn turn.now }
     ensures row { result.row ≡ record { side = side; target = Some place; wrote = made.wrote } }
-    ensures bad { (x : Tried) → x.side ≡ side → IsSession session.now x.verdicts x.text → result.is_bad ≡ (some_failed x.verdicts || is_kept (plain_turn turn.now) x) }
+    ensures bad { (x : Tried) → x.side ≡ side → IsSession session.now x.verdicts x.text → result.is_bad ≡ ((some_failed x.verdicts || is_kept (plain_turn turn.now) x) || fails_first (plain_turn turn.now)) }
     ensures effects { result.effects ≡ made.effects }
 {
     let row = Row {
@@ -214,7 +215,26 @@ fn done_of(turn: &Turn<'_>, place: u32, side: Side, session: &Session, made: Mad
     };
     Done {
         row,
-        is_bad: session.failed > 0 || is_kept(turn, side, session),
+        is_bad: ends_badly(turn, side, session),
         effects: made.effects,
     }
+}
+
+/// Whether a file patch whose hunks were tried is bad: by itself, or as the first behind a binary change that failed.
+fn ends_badly(turn: &Turn<'_>, side: Side, session: &Session) -> bool
+    requires { IsTurn turn.now }
+    ensures { (x : Tried) → x.side ≡ side → IsSession session.now x.verdicts x.text → result ≡ ((some_failed x.verdicts || is_kept (plain_turn turn.now) x) || fails_first (plain_turn turn.now)) }
+{
+    if fails(turn, side, session) {
+        return true;
+    }
+    fails_first(&turn.task)
+}
+
+/// Whether a hunk failed, or a file that was to be deleted wasn't.
+fn fails(turn: &Turn<'_>, side: Side, session: &Session) -> bool
+    requires { IsTurn turn.now }
+    ensures { (x : Tried) → x.side ≡ side → IsSession session.now x.verdicts x.text → result ≡ (some_failed x.verdicts || is_kept (plain_turn turn.now) x) }
+{
+    session.failed > 0 || is_kept(turn, side, session)
 }

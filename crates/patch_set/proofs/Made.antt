@@ -9,7 +9,7 @@ use Rattle.file_patch.specs.declared.derived.Target.{Target}
 use Rattle.file_patch.specs.Targets.{HasTemps}
 use Rattle.patch_text.specs.Regions.{region_of, regions_of}
 use Rattle.patch_set.specs.Asked.{ways_of}
-use Rattle.patch_set.specs.Skipped.{skipped_lines}
+use Rattle.patch_set.specs.Skipped.{skipped_changes}
 use Rattle.patch_set.specs.Spans.{ArePlaced}
 use Rattle.patch_set.specs.Looks.{is_reserving}
 use Rattle.patch_set.specs.Named.{known_names, output_of}
@@ -35,7 +35,7 @@ has-targets o text known ps v same are out temps none = record {
 set-of : (o : PlainOptions) (text : List ℕ) (ps : List FilePatch) (v : SetView)
     → v.text ≡ text → v.ways ≡ ways_of o → AreNamed o text (known_names o (map (patch_of text) ps)) ps v.patches
     → v.output ≡ output_of o (known_names o (map (patch_of text) ps)) → ForSome v.output HasTemps
-    → find (is_reserving v.output) v.patches ≡ None → map region_of ps ≡ regions_of (ways_of o) text → ArePlaced text 0 0 ps → v.skipped ≡ skipped_lines (ways_of o) text → IsSetOf o text (map (patch_of text) ps) v
+    → find (is_reserving v.output) v.patches ≡ None → map region_of ps ≡ regions_of (ways_of o) text → ArePlaced text 0 0 ps → v.skipped ≡ skipped_changes (ways_of o) text → IsSetOf o text (map (patch_of text) ps) v
 set-of o text ps v same ways are out temps none regions at skips =
     let known = known_names o (map (patch_of text) ps) in
     let plain : plain_patches v ≡ map (patch_of text) ps = ap (λ t. map (patch_of t) v.patches) same ∙ named-plain o text known ps v.patches are in
@@ -45,7 +45,7 @@ set-of o text ps v same ways are out temps none regions at skips =
       plain = plain;
       regions = rw same (named-regions o text known ps v.patches are ∙ regions);
       spans = rw same (named-placed o text known 0 0 ps v.patches are at);
-      skipped = skips ∙ sym (ap (skipped_lines (ways_of o)) same);
+      skipped = skips ∙ sym (ap (skipped_changes (ways_of o)) same);
       names = subst (λ rs. HasTargets o (known_names o rs) v) (sym plain) (has-targets o text known ps v same are out temps none);
     }
 
@@ -57,7 +57,7 @@ none-found (Option.Some q) is = absurd cc
 pub made-set : (o : PlainOptions) (text : List ℕ) (ps qs : List FilePatch) (output : Option Target) (v : SetView)
     → v.text ≡ text → v.ways ≡ ways_of o → v.patches ≡ qs → v.output ≡ output → HaveTargets o text ps qs output
     → find (is_reserving output) qs ≡ None
-    → map region_of ps ≡ regions_of (ways_of o) text → ArePlaced text 0 0 ps → v.skipped ≡ skipped_lines (ways_of o) text → IsSetOf o text (map (patch_of text) ps) v
+    → map region_of ps ≡ regions_of (ways_of o) text → ArePlaced text 0 0 ps → v.skipped ≡ skipped_changes (ways_of o) text → IsSetOf o text (map (patch_of text) ps) v
 made-set o text ps qs output v same ways patches out have none regions at skips =
     set-of o text ps v same ways (subst (λ rs. AreNamed o text (known_names o (map (patch_of text) ps)) ps rs) (sym patches) have.are) (out ∙ have.out)
     (subst (λ x. ForSome x HasTemps) (sym out) have.temps)

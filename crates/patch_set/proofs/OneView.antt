@@ -13,7 +13,7 @@ use Rattle.patch_text.specs.Regions.{region_of, regions_of}
 use Rattle.patch_text.specs.Changes.{AreCut}
 use Rattle.patch_set.specs.Asked.{ways_of}
 use Rattle.patch_set.specs.Named.{known_names, targets_of, output_of}
-use Rattle.patch_set.specs.Skipped.{skipped_lines}
+use Rattle.patch_set.specs.Skipped.{skipped_changes}
 use Rattle.patch_set.specs.Spans.{ArePlaced}
 use Rattle.patch_set.specs.OneView.{AreOne}
 use Rattle.patch_set.specs.SetView.{SetView, IsRead, plain_patches}
@@ -123,5 +123,5 @@ one-view o given v w one two =
           ∙ same-by-header (λ h. targets_of o (known_names o (plain_patches w)) (header_of w.text h)) v.patches w.patches headers
           ∙ sym two.names.targets;
       output = one.names.output ∙ ap (output_of o) known ∙ sym two.names.output;
-      skipped = one.skipped ∙ ap (skipped_lines (ways_of o)) text ∙ sym two.skipped;
+      skipped = one.skipped ∙ ap (skipped_changes (ways_of o)) text ∙ sym two.skipped;
     }

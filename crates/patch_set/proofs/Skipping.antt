@@ -1,5 +1,5 @@
--- The lines of the binary changes that are passed over, one line and one file patch after another.
-use Rattle.std.proofs.Common.{◌≡◌, ℕ, zero, suc, ◌+◌, ◌<◌, ◌≤◌, Bool, true, false, not, ◌&&◌, ◌||◌, List, [], ◌∷◌, ◌++◌, length, map, drop, get_or, slice_range, refl, sym, ap, ◌∙◌, arith, append_assoc}
+-- The binary changes that are passed over, one line and one file patch after another.
+use Rattle.std.proofs.Common.{◌≡◌, ℕ, zero, suc, ◌+◌, ◌<◌, ◌≤◌, Bool, true, false, not, ◌&&◌, ◌||◌, List, [], ◌∷◌, ◌++◌, Option, None, length, map, drop, get_or, slice_range, refl, sym, ap, ◌∙◌, arith, append_assoc}
 use Rattle.std.specs.Prelude.{nat_lt}
 use Rattle.std.proofs.lemmas.Bool.{le-ltb, lt-ltb}
 use Rattle.std.proofs.lemmas.List.{append-nil, drop_all, length-map}
@@ -8,7 +8,8 @@ use Rattle.patch_header.specs.Content.{is_binary}
 use Rattle.file_patch.specs.declared.FilePatch.{FilePatch}
 use Rattle.patch_text.specs.Regions.{Region, region_of}
 use Rattle.patch_header.proofs.Rows.{line_length}
-use Rattle.patch_set.specs.Skipped.{is_outside, number_if, skipped_from}
+use Rattle.patch_set.specs.declared.skipped.BinaryChange.{BinaryChange}
+use Rattle.patch_set.specs.Skipped.{is_outside, names_on, changes_if, skipped_from}
 
 -- ---- file patches that end in front of a place
 
@@ -76,52 +77,57 @@ module _ (ps : List FilePatch) (first next at : ℕ) (so : IsPast ps first next 
 -- ---- a line more
 
 -- the lines up to a place were looked through
-pub record HasLooked (text : List ℕ) (ps : List FilePatch) (found : List ℕ) (at number next : ℕ) : Type 0 where
+pub record HasLooked (text : List ℕ) (ps : List FilePatch) (found : List BinaryChange) (at number next : ℕ) (names : Option (List ℕ)) : Type 0 where
   pub within : at ≤ length text
   pub few : number ≤ at + 1
-  pub all : found ++ skipped_from (map region_of ps) at number (lines (drop at text)) ≡ skipped_from (map region_of ps) 0 1 (lines text)
+  pub all : found ++ skipped_from (map region_of ps) at number names (lines (drop at text)) ≡ skipped_from (map region_of ps) 0 1 None (lines text)
   pub next_within : next ≤ length ps
   pub behind : (place : ℕ) → at ≤ place → is_outside (drop next (map region_of ps)) place ≡ is_outside (map region_of ps) place
 
-pub looked-none : (text : List ℕ) (ps : List FilePatch) → HasLooked text ps [] 0 1 0
+pub looked-none : (text : List ℕ) (ps : List FilePatch) → HasLooked text ps [] 0 1 0 None
 looked-none text ps = record { within = omega arith; few = omega arith; all = refl; next_within = omega arith; behind = λ place on. refl }
 
-skipped-more : (rs : List Region) (at number : ℕ) (line : List ℕ) (rest : List (List ℕ)) → skipped_from rs at number (line ∷ rest) ≡ number_if (is_outside rs at && is_binary line) number ++ skipped_from rs (at + length line) (number + 1) rest
+skipped-more : (rs : List Region) (at number : ℕ) (names : Option (List ℕ)) (line : List ℕ) (rest : List (List ℕ))
+    → skipped_from rs at number names (line ∷ rest) ≡ changes_if (is_outside rs at && is_binary line) number names line ++ skipped_from rs (at + length line) (number + 1) (names_on names (is_outside rs at) line) rest
 unfolding skipped_from
-skipped-more rs at number line rest = refl
+skipped-more rs at number names line rest = refl
 
-skipped-end : (rs : List Region) (at number : ℕ) → skipped_from rs at number [] ≡ []
+skipped-end : (rs : List Region) (at number : ℕ) (names : Option (List ℕ)) → skipped_from rs at number names [] ≡ []
 unfolding skipped_from
-skipped-end rs at number = refl
+skipped-end rs at number names = refl
 
-pub looked-more : (text : List ℕ) (ps : List FilePatch) (found more : List ℕ) (at number next end later : ℕ) (outside kept : Bool) → HasLooked text ps found at number next → IsLineAt text at end
-    → IsPast ps next later at → outside ≡ is_outside (drop next (map region_of ps)) at → kept ≡ (outside && is_binary (slice_range text at end)) → more ≡ found ++ number_if kept number
-    → HasLooked text ps more end (number + 1) later
-looked-more text ps found more at number next end later outside kept so line past is keeps adds =
+pub looked-more : (text : List ℕ) (ps : List FilePatch) (found more : List BinaryChange) (at number next end later : ℕ) (names onward : Option (List ℕ)) (outside kept : Bool) → HasLooked text ps found at number next names → IsLineAt text at end
+    → IsPast ps next later at → outside ≡ is_outside (drop next (map region_of ps)) at → kept ≡ (outside && is_binary (slice_range text at end)) → more ≡ found ++ changes_if kept number names (slice_range text at end)
+    → onward ≡ names_on names outside (slice_range text at end) → HasLooked text ps more end (number + 1) later onward
+looked-more text ps found more at number next end later names onward outside kept so line past is keeps adds goes =
     let rs = map region_of ps in
     let one = slice_range text at end in
     let rest = lines (drop end text) in
     let far : at + length one ≡ end = line_length text at end line in
     let low : at < end = line.low in
     let high : end ≤ length text = line.high in
-    let told : kept ≡ (is_outside rs at && is_binary one) = keeps ∙ ap (λ b. b && is_binary one) (is ∙ so.behind at (omega arith)) in
+    let here : outside ≡ is_outside rs at = is ∙ so.behind at (omega arith) in
+    let told : kept ≡ (is_outside rs at && is_binary one) = keeps ∙ ap (λ b. b && is_binary one) here in
+    let own = changes_if (is_outside rs at && is_binary one) number names one in
     record {
       within = high;
       few = omega (arith, so.few, low);
       all =
-          ap (λ l. l ++ skipped_from rs end (number + 1) rest) (adds ∙ ap (λ b. found ++ number_if b number) told)
-          ∙ append_assoc found (number_if (is_outside rs at && is_binary one) number) (skipped_from rs end (number + 1) rest)
-          ∙ ap (λ n. found ++ (number_if (is_outside rs at && is_binary one) number ++ skipped_from rs n (number + 1) rest)) (sym far)
-          ∙ ap (λ l. found ++ l) (sym (skipped-more rs at number one rest))
-          ∙ ap (λ ls. found ++ skipped_from rs at number ls) (sym line.first)
+          ap (λ l. l ++ skipped_from rs end (number + 1) onward rest) (adds ∙ ap (λ b. found ++ changes_if b number names one) told)
+          ∙ append_assoc found own (skipped_from rs end (number + 1) onward rest)
+          ∙ ap (λ o. found ++ (own ++ skipped_from rs end (number + 1) o rest)) (goes ∙ ap (λ b. names_on names b one) here)
+          ∙ ap (λ n. found ++ (own ++ skipped_from rs n (number + 1) (names_on names (is_outside rs at) one) rest)) (sym far)
+          ∙ ap (λ l. found ++ l) (sym (skipped-more rs at number names one rest))
+          ∙ ap (λ ls. found ++ skipped_from rs at number names ls) (sym line.first)
           ∙ so.all;
       next_within = past.within;
       behind = λ place on. past.behind place (omega (arith, on, low)) ∙ so.behind place (omega (arith, on, low));
     }
 
-pub looked-all : (text : List ℕ) (ps : List FilePatch) (found : List ℕ) (at number next : ℕ) → HasLooked text ps found at number next → lines (drop at text) ≡ [] → found ≡ skipped_from (map region_of ps) 0 1 (lines text)
-looked-all text ps found at number next so none =
+pub looked-all : (text : List ℕ) (ps : List FilePatch) (found : List BinaryChange) (at number next : ℕ) (names : Option (List ℕ)) → HasLooked text ps found at number next names → lines (drop at text) ≡ []
+    → found ≡ skipped_from (map region_of ps) 0 1 None (lines text)
+looked-all text ps found at number next names so none =
     sym (append-nil found)
-    ∙ ap (λ l. found ++ l) (sym (skipped-end (map region_of ps) at number))
-    ∙ ap (λ ls. found ++ skipped_from (map region_of ps) at number ls) (sym none)
+    ∙ ap (λ l. found ++ l) (sym (skipped-end (map region_of ps) at number names))
+    ∙ ap (λ ls. found ++ skipped_from (map region_of ps) at number names ls) (sym none)
     ∙ so.all

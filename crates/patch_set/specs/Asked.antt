@@ -1,5 +1,5 @@
 -- In which ways a patch text is read for a command (GNU patch manual, "Multiple Patches in a File"; git-diff(1), "Generating patch text with -p").
-use Rattle.std.specs.Prelude.{Bool, true, false, not, ◌&&◌, Option, None, Some, is_none}
+use Rattle.std.specs.Prelude.{Bool, true, false, not, ◌&&◌, ◌||◌, Option, None, Some, is_none}
 use Rattle.hunk_core.specs.declared.Form.{Form}
 use Rattle.hunk_core.specs.declared.Form.TheVariants.{Unified, Context, Normal, Ed}
 use Rattle.patch_header.specs.declared.ways.Ways.{Ways}
@@ -25,9 +25,9 @@ is_for_own_names o = admits_unified o.only && (is_none o.file && (is_none o.outp
 abbrev pub reads_git : PlainOptions → Bool
 reads_git o = is_for_own_names o
 
--- binary changes are passed over where that is asked for
+-- binary changes are passed over where that is asked for, and where a run is to go on whatever it meets
 abbrev pub skips_binary : PlainOptions → Bool
-skips_binary o = o.skip_binary
+skips_binary o = (o.force || o.batch) || o.skip_binary
 
 -- the ways for a command
 abbrev pub ways_of : PlainOptions → Ways

@@ -10,7 +10,7 @@ use Rattle.patch_set.specs.declared.set.Notes.{Notes}
 use Rattle.file_patch.specs.declared.derived.Target.{Target}
 use Rattle.patch_set.specs.Room.{AreBlank}
 use Rattle.patch_set.specs.SetView.{SetView, IsFresh, IsWhole, first_row, hunks_in}
-use Rattle.patch_set.specs.Skipped.{skipped_lines}
+use Rattle.patch_set.specs.Skipped.{skipped_changes}
 use Rattle.patch_set.specs.Spans.{ArePlaced}
 
 -- lawful file patches that lie where the text says, one behind the other, and can be counted with their hunks
@@ -23,7 +23,7 @@ pub record AreWhole (ways : Ways) (text : List ℕ) (ps : List FilePatch) : Type
 
 -- what is noted before anything was tried
 pub record AreFirst (ways : Ways) (text : List ℕ) (ps : List FilePatch) (out : Option Target) (n : Notes) : Type 0 where
-  pub skipped : n.skipped.items ≡ skipped_lines ways text
+  pub skipped : n.skipped.items ≡ skipped_changes ways text
   pub verdicts : n.verdicts.items ≡ replicate (hunks_in ps) Untried
   pub rows : n.rows.items ≡ replicate (length ps) first_row
   pub marks : AreBlank ps out n.marks
@@ -34,6 +34,6 @@ pub record IsUntried (given : List ℕ) (read : Ways) (named : NamedPatches) (v 
   pub ways : v.ways ≡ read
   pub patches : v.patches ≡ named.patches.items
   pub output : v.output ≡ named.output
-  pub skipped : v.skipped ≡ skipped_lines read given
+  pub skipped : v.skipped ≡ skipped_changes read given
   pub fresh : IsFresh v
   pub whole : IsWhole v

@@ -2,7 +2,7 @@
 use Rattle.std.specs.Prelude.{◌≡◌, map}
 use Rattle.patch_set.specs.SetView.{SetView, plain_patches}
 
--- their text, what their file patches stand for, where these and their hunks lie, which verdicts are theirs, their targets, and the lines of the binary changes that were passed over
+-- their text, what their file patches stand for, where these and their hunks lie, which verdicts are theirs, their targets, and the binary changes that were passed over
 pub record AreOne (v w : SetView) : Type 0 where
   pub text : v.text ≡ w.text
   pub patches : plain_patches v ≡ plain_patches w

@@ -17,9 +17,10 @@ use Rattle.patch_text.specs.Regions.{region_of, regions_of}
 use Rattle.patch_set.specs.declared.fault.SetFault.{SetFault}
 use Rattle.patch_set.specs.declared.fault.SetFault.TheVariants.{Memory}
 use Rattle.patch_set.specs.declared.set.Row.{Row}
+use Rattle.patch_set.specs.declared.skipped.BinaryChange.{BinaryChange}
 use Rattle.patch_set.specs.Asked.{ways_of}
 use Rattle.patch_set.specs.Named.{known_names, targets_of, output_of}
-use Rattle.patch_set.specs.Skipped.{skipped_lines}
+use Rattle.patch_set.specs.Skipped.{skipped_changes}
 use Rattle.patch_set.specs.Spans.{ArePlaced}
 
 pub record SetView : Type 0 where
@@ -28,8 +29,8 @@ pub record SetView : Type 0 where
   pub ways : Ways
   pub patches : List FilePatch
   pub output : Option Target
-  -- the lines of the binary changes that were passed over
-  pub skipped : List ℕ
+  -- the binary changes that were passed over
+  pub skipped : List BinaryChange
   -- one for each hunk, an ed script counting as one, or none
   pub verdicts : List Verdict
   -- one for each file patch
@@ -65,7 +66,7 @@ pub record IsWhole (v : SetView) : Type 0 where
   pub count : length v.patches < 2 ^ 32
   pub hunks : hunks_in v.patches < 2 ^ 32
   pub rows : length v.rows ≡ length v.patches
-  pub skipped : v.skipped ≡ skipped_lines v.ways v.text
+  pub skipped : v.skipped ≡ skipped_changes v.ways v.text
 
 -- a target whose temporaries have names of temporaries, while the names that are written have not
 pub record IsFit (t : Target) : Type 0 where
@@ -88,7 +89,7 @@ pub record IsRead (o : PlainOptions) (given : List ℕ) (v : SetView) : Type 0 w
   -- each lies where the text says
   pub regions : map region_of v.patches ≡ regions_of (ways_of o) v.text
   pub spans : ArePlaced v.text 0 0 v.patches
-  pub skipped : v.skipped ≡ skipped_lines (ways_of o) v.text
+  pub skipped : v.skipped ≡ skipped_changes (ways_of o) v.text
   pub names : HasTargets o (known_names o (plain_patches v)) v
 
 -- the set of these file patches of a text
@@ -98,7 +99,7 @@ pub record IsSetOf (o : PlainOptions) (given : List ℕ) (ps : List PlainPatch) 
   pub plain : plain_patches v ≡ ps
   pub regions : map region_of v.patches ≡ regions_of (ways_of o) v.text
   pub spans : ArePlaced v.text 0 0 v.patches
-  pub skipped : v.skipped ≡ skipped_lines (ways_of o) v.text
+  pub skipped : v.skipped ≡ skipped_changes (ways_of o) v.text
   pub names : HasTargets o (known_names o (plain_patches v)) v
 
 -- nothing was tried yet

@@ -45,7 +45,7 @@ fn admits_unified(only: Option<Form>) -> bool
 fn skips_binary(options: &Options) -> bool
     ensures { result ≡ skips_binary (plain_options options.now) }
 {
-    options.skip_binary
+    options.force || options.batch || options.skip_binary
 }
 
 /// The ways in which a patch text is read for a command.

@@ -23,3 +23,4 @@ pub use laws::{
 pub use names::{NamedPatches, bytes_in};
 pub use reading::{give_targets, read_set, whole_text};
 pub use set::{PatchSet, Row};
+pub use skipped::BinaryChange;

@@ -5,7 +5,7 @@ ghost use Rattle.hunk_core.specs.declared.Verdict.TheVariants.{Untried};
 ghost use Rattle.file_patch.specs.PlainPatch.{header_of};
 ghost use Rattle.patch_text.specs.Regions.{region_of, regions_of};
 ghost use Rattle.patch_set.specs.PlainName.{plain_name};
-ghost use Rattle.patch_set.specs.Skipped.{skipped_lines};
+ghost use Rattle.patch_set.specs.Skipped.{skipped_changes};
 ghost use Rattle.patch_set.specs.SetView.{IsWhole, first_row, hunks_in, patch_at, with_row, with_verdicts, without_marks};
 ghost use Rattle.patch_set.specs.Fresh.{AreFirst, AreWhole, IsUntried};
 ghost use Rattle.patch_set.specs.Room.{AreUnmarked, HaveRoom};
@@ -13,7 +13,7 @@ ghost use Rattle.patch_set.specs.Room.{AreUnmarked, HaveRoom};
 use crate::header_name::plain_name;
 use crate::marks::room_if;
 use crate::names::NamedPatches;
-use crate::skipped::skipped_lines;
+use crate::skipped::{BinaryChange, skipped_changes};
 use file_patch::{FilePatch, Target};
 use hunk_core::{Side, Verdict};
 use outside::NameMarks;
@@ -39,7 +39,7 @@ pub struct PatchSet {
     ways: Ways,
     patches: Vec<FilePatch>,
     output: Option<Target>,
-    skipped: Vec<u64>,
+    skipped: Vec<BinaryChange>,
     verdicts: Vec<Verdict>,
     rows: Vec<Row>,
     /// Room for the names that a run makes or takes away. What the set is seen as says whether it is there.
@@ -97,12 +97,11 @@ impl PatchSet {
         self.output.as_ref()
     }
 
-    /// The lines of the binary changes that were passed over, in order: of each line `GIT binary patch` or `Binary files ..
-    /// differ` that stands outside of hunks. A change that has two such lines has two here. There is none where binary
-    /// changes aren't passed over.
-    pub fn skipped(&self) -> &[u64]
+    /// The binary changes that were passed over, in order: one for each line `GIT binary patch` or `Binary files .. differ`
+    /// that stands outside of hunks. There is none where binary changes aren't passed over.
+    pub fn skipped(&self) -> &[BinaryChange]
         ensures skipped { result.now ≡ self.now.skipped }
-        ensures lines { result.now ≡ skipped_lines self.now.ways self.now.text }
+        ensures changes { result.now ≡ skipped_changes self.now.ways self.now.text }
     {
         &self.skipped
     }
@@ -162,7 +161,7 @@ impl PatchSet {
 /// What a set has beside its text and its file patches.
 #[derive(Drop)]
 struct Notes {
-    skipped: Vec<u64>,
+    skipped: Vec<BinaryChange>,
     verdicts: Vec<Verdict>,
     rows: Vec<Row>,
     marks: Option<NameMarks>,
@@ -229,7 +228,7 @@ fn first_notes(
     ensures first { IfOk result (AreFirst ways text.now patches.now output.now) }
     ensures asked { IfOk result (λ notes. is_some notes.marks ≡ marks_asked) }
 {
-    let skipped = skipped_lines(alloc, text, ways, patches)?;
+    let skipped = skipped_changes(alloc, text, ways, patches)?;
     let verdicts = untried_hunks(alloc, hunks_in(patches))?;
     let rows = first_rows(alloc, patches.len())?;
     let marks = room_if(alloc, marks_asked, patches, output)?;

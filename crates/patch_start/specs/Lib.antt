@@ -1,5 +1,6 @@
 pub mod Fitting
 pub mod Start
+pub mod Skipping
 pub mod Devices
 pub mod Starting
 pub mod Trying

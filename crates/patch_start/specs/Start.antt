@@ -22,11 +22,12 @@ use Rattle.name_choice.specs.declared.Choice.{Choice}
 use Rattle.name_choice.specs.declared.Choice.TheVariants.{Existing, Create, Nothing}
 use Rattle.name_choice.specs.Choice.{choice, names_of, side_of}
 use Rattle.name_choice.specs.Making.{names_new}
-use Rattle.say_text.specs.Messages.{silenced, skipping_lines, patching_line, no_file_lines, prereq_line, reversed_line, unfit_line}
+use Rattle.say_text.specs.Messages.{silenced, patching_line, no_file_lines, prereq_line, reversed_line, unfit_line}
 use Rattle.say_text.specs.declared.standing.Standing.{Standing}
 use Rattle.say_text.specs.Origins.{PlainOrigin}
 use Rattle.say_text.specs.Origins.PlainOrigin.{Itself, RenamedFrom, CopiedFrom}
 use Rattle.patch_task.specs.Asking.{moves}
+use Rattle.patch_start.specs.Skipping.{changes_said, has_failing}
 use Rattle.patch_start.specs.Fitting.{standing_of, purpose_of, misfit}
 use Rattle.patch_task.specs.Turns.{Mark, PlainTurn, target_at, written, bytes_of, shown, is_source}
 
@@ -178,9 +179,12 @@ abbrev pub is_first : List Mark → Bool
 is_first [] = true
 is_first (m ∷ past) = false
 
--- before anything else a run says which binary changes are passed over
+-- before anything else a run says what becomes of the binary changes, and one that fails is a failure of its first file patch
 abbrev pub skipped_said : PlainTurn → List ℕ
-skipped_said t = if is_first t.past then skipping_lines t.item.skipped else []
+skipped_said t = if is_first t.past then changes_said t.options t.item.skipped else []
+
+abbrev pub fails_first : PlainTurn → Bool
+fails_first t = is_first t.past && has_failing t.options t.item.skipped
 
 abbrev pub own_start : PlainTurn → Files → Start
 own_start t files = on_choice t files (choice_of t files)

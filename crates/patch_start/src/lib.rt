@@ -7,9 +7,11 @@ mod discard;
 mod fill;
 mod fitting;
 mod naming;
+mod skipping;
 mod starting;
 mod weighing;
 mod word;
 
 pub use fill::{Attempt, try_hunks};
+pub use skipping::fails_first;
 pub use starting::{Decision, start};

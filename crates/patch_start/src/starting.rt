@@ -1,13 +1,13 @@
 //! How a file patch is taken: whether its hunks are tried, and from which side.
 
-ghost use Rattle.std.specs.Prelude.{◌≡◌, ◌<◌, ℕ, List, [], length, if◌then◌else◌, is_some, false, Some, None, IfOk, IfErr, OnErr};
+ghost use Rattle.std.specs.Prelude.{◌≡◌, ◌<◌, ℕ, List, length, is_some, false, Some, None, IfOk, IfErr, OnErr};
 ghost use Rattle.std.specs.FinMap.{get};
 ghost use Rattle.outside.specs.Files.{Files};
 ghost use Rattle.outside.specs.TreeView.{Rises};
 ghost use Rattle.outside.specs.Calls.{IsUntouched};
 ghost use Rattle.outside.specs.SinkView.{Writes};
 ghost use Rattle.name_choice.specs.Choice.{IsWithin as IsAmong, side_of};
-ghost use Rattle.say_text.specs.Messages.{no_file_lines, skipping_lines};
+ghost use Rattle.say_text.specs.Messages.{no_file_lines};
 ghost use Rattle.patch_task.specs.declared.fault.RunFault.TheVariants.{Write};
 ghost use Rattle.patch_task.specs.Turns.{Mark, bytes_of};
 ghost use Rattle.patch_start.specs.Start.{start, own_start, is_first, choice_of, on_target, on_file, on_unfit, on_misfit, on_taking};
@@ -17,6 +17,7 @@ ghost use Rattle.patch_task.specs.TaskView.{plain_task, with_past, IsTask};
 use crate::choices::{is_forced, turns_round};
 use crate::fitting::unfit;
 use crate::naming::{named, origin};
+use crate::skipping::tell_skipped;
 use crate::weighing::weigh;
 use hunk_core::Side;
 use line_store::{OpenFault, Plan};
@@ -24,7 +25,7 @@ use name_choice::{Choice, choose};
 use outside::{Failed, Name, Sink, Tree};
 use patch_set::{Row, is_posix};
 use patch_task::{RunFault, Task, chosen, shown, written};
-use say_text::{Standing, say_no_file, say_patching, say_skipped, say_unfit};
+use say_text::{Standing, say_no_file, say_patching, say_unfit};
 
 /// What becomes of a file patch.
 #[derive(Clone, Copy)]
@@ -35,7 +36,7 @@ pub enum Decision {
     Try { place: u32, side: Side },
 }
 
-/// Says which binary changes are passed over, if none was before it. Then it chooses the file, says so, takes its lines, and
+/// Says what becomes of binary changes, if none was before it. Then it chooses the file, says so, takes its lines, and
 /// decides. The tree is left as it is.
 pub fn start<P: Plan, T: Tree, O: Sink>(
     task: &Task<'_>,
@@ -52,17 +53,6 @@ pub fn start<P: Plan, T: Tree, O: Sink>(
 {
     tell_skipped(task, out)?;
     start_own(task, plan, tree, out)
-}
-
-/// Says which binary changes are passed over, before the first file patch of a run.
-fn tell_skipped<O: Sink>(task: &Task<'_>, out: &mut O) -> Result<(), Failed>
-    ensures writes { Writes (O.view out.old) (O.view out.new) result (if task.now.is_first then skipping_lines task.now.set.now.skipped else []) }
-    ensures rest { O.same_rest out.old out.new }
-{
-    if !task.is_first {
-        return Ok(());
-    }
-    say_skipped(task.set.skipped(), out)
 }
 
 /// Chooses the file, says so, takes its lines, and decides.

@@ -8,6 +8,7 @@ use Rattle.file_patch.specs.Actions.{is_moved}
 use Rattle.file_patch.specs.PlainPatch.{patch_of, row_count}
 use Rattle.file_patch.specs.Absent.{IsLawfulPatch}
 use Rattle.patch_set.specs.SetView.{SetView}
+use Rattle.patch_set.specs.declared.skipped.BinaryChange.{BinaryChange}
 use Rattle.patch_task.specs.Named.{IsNamed}
 use Rattle.patch_task.specs.Turns.{Item, PlainTurn}
 
@@ -18,8 +19,8 @@ moved_of p = if is_moved p.header.action then p.targets.items else []
 abbrev pub moved_in : List FilePatch → List (List Target)
 moved_in ps = map moved_of ps
 
--- a file patch of a set, of whose text these lines are passed over and these files renamed or copied
-abbrev pub item_of : List ℕ → List ℕ → List (List Target) → FilePatch → Item
+-- a file patch of a set, of whose text these binary changes are passed over and these files renamed or copied
+abbrev pub item_of : List ℕ → List BinaryChange → List (List Target) → FilePatch → Item
 item_of text skipped moved p = record { patch = patch_of text p; targets = p.targets.items; skipped = skipped; moved = moved }
 
 -- a file patch of a set, with its targets

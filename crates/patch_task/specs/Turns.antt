@@ -8,13 +8,14 @@ use Rattle.patch_options.specs.PlainJob.{PlainOptions}
 use Rattle.file_patch.specs.declared.derived.Target.{Target}
 use Rattle.file_patch.specs.PlainPatch.{PlainPatch, hunk_count}
 use Rattle.patch_set.specs.declared.set.Row.{Row}
+use Rattle.patch_set.specs.declared.skipped.BinaryChange.{BinaryChange}
 use Rattle.patch_task.specs.Asking.{renames, written_place}
 
--- a file patch, the files that it can be meant for, the lines of the binary changes of its text that are passed over, and of each file patch of its text that renames or copies a file the two names
+-- a file patch, the files that it can be meant for, the binary changes of its text that are passed over, and of each file patch of its text that renames or copies a file the two names
 pub record Item : Type 0 where
   pub patch : PlainPatch
   pub targets : List Target
-  pub skipped : List ℕ
+  pub skipped : List BinaryChange
   pub moved : List (List Target)
 
 -- what later file patches ask of one: the name that it made or took away as its target, the one that it took away from a file that it renamed, and its reject text with the name of that file

@@ -6,6 +6,7 @@ ghost use Rattle.patch_task.specs.Turns.{shown, shown_reject, written, written_a
 ghost use Rattle.patch_task.specs.Ready.{item_of};
 ghost use Rattle.patch_task.specs.Named.{BeginsComponent, IsNamed};
 ghost use Rattle.file_patch.specs.declared.derived.Target.{Target as ThisTarget};
+ghost use Rattle.patch_set.specs.declared.skipped.BinaryChange.{BinaryChange};
 ghost use Rattle.patch_task.specs.TaskView.{plain_task, IsTask};
 
 use crate::asking::written_place;
@@ -57,7 +58,7 @@ pub fn target_in<'a>(patch: &'a FilePatch, place: u32) -> Option<&'a Target>
 
 /// The target that a file patch writes without an output of the options, where this one was chosen.
 pub fn written_at<'a>(patch: &'a FilePatch, place: u32) -> Option<&'a Target>
-    ensures target { (text skipped : List ℕ) (moved : List (List ThisTarget)) → option_copied result ≡ written_at (item_of text skipped moved patch.now) place }
+    ensures target { (text : List ℕ) (skipped : List BinaryChange) (moved : List (List ThisTarget)) → option_copied result ≡ written_at (item_of text skipped moved patch.now) place }
     ensures named { All IsNamed patch.now.targets.items → ForSome (option_copied result) IsNamed }
 {
     match target_in(patch, written_place(patch, place)) {

@@ -15,7 +15,8 @@ use series_stack::StateFile;
 pub enum Why {
     /// All was carried out, and nothing was refused.
     Done,
-    /// All was carried out, but a hunk failed, a file patch was skipped, or a file that was to be deleted wasn't.
+    /// All was carried out, but a hunk failed, a file patch was skipped, a file that was to be deleted wasn't, or an image isn't
+    /// put in.
     Rejected,
     /// The words are not a command.
     Usage,

@@ -1,7 +1,6 @@
 -- What `patch` says on standard output while it works: each message is a line with its line feed, one of them two lines.
 -- The texts are the project's own, in the wording of GNU patch where there is one.
 use Rattle.std.specs.Prelude.{ℕ, ◌==◌, ℤ, pos, negsuc, suc, List, [], ◌∷◌, ◌++◌, codes, Bool, true, false, ◌&&◌, ◌||◌, not, if◌then◌else◌, Option, None, Some}
-use Rattle.std.specs.List.{flat_map}
 use Rattle.num_text.specs.Numbers.{decimal}
 use Rattle.patch_options.specs.PlainJob.{PlainOptions}
 use Rattle.say_text.specs.Origins.{PlainOrigin}
@@ -46,9 +45,9 @@ patching_line is_dry (Some output) name origin = doing is_dry ++ (output ++ (cod
 abbrev pub skipping_line : ℕ → List ℕ
 skipping_line line = codes "Skipping a binary change at input line " ++ (decimal line ++ codes ".\n")
 
--- those at these lines
-unfoldable pub skipping_lines : List ℕ → List ℕ
-skipping_lines lines = flat_map skipping_line lines
+-- an image isn't put in: the name of its file
+abbrev pub image_line : List ℕ → List ℕ
+image_line name = codes "File " ++ (name ++ codes ": git binary diffs are not supported.\n")
 
 -- no file was found for the patch that opens at this line: two lines
 abbrev pub no_file_lines : ℕ → List ℕ

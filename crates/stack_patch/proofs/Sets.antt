@@ -13,7 +13,8 @@ use Rattle.patch_set.specs.declared.fault.SetFault.{SetFault}
 use Rattle.patch_set.specs.Asked.{ways_of}
 use Rattle.patch_set.specs.Named.{known_names, targets_of}
 use Rattle.patch_set.specs.Refusals.{refusal}
-use Rattle.patch_set.specs.Skipped.{skipped_lines}
+use Rattle.patch_set.specs.declared.skipped.BinaryChange.{BinaryChange}
+use Rattle.patch_set.specs.Skipped.{skipped_changes}
 use Rattle.patch_set.specs.SetView.{SetView, IsRead, plain_patches}
 use Rattle.patch_run.specs.OnePatch.{Item}
 use Rattle.patch_run.specs.Run.{run_of, set_run, item_of, moved_in, items_of}
@@ -46,13 +47,13 @@ module _ (text : List ℕ) (v : SetView) (is : IsRead push_options text v) where
   no_output = is.names.output
 
   none_skipped : v.skipped ≡ []
-  unfolding push_options skipped_lines
+  unfolding push_options skipped_changes
   none_skipped = is.skipped
 
   same_items : items_of v ≡ items_for push_options (plain_patches v)
   same_items =
       let known = known_names push_options (plain_patches v) in
-      ap (λ (l : List ℕ). map (item_of v.text l (moved_in v.patches)) v.patches) none_skipped
+      ap (λ (l : List BinaryChange). map (item_of v.text l (moved_in v.patches)) v.patches) none_skipped
       ∙ items_same v.text known (moved_in v.patches) v.patches is.names.targets
       ∙ ap (λ (l : List (List Target)). map (item_for push_options known l) (plain_patches v)) (sym (moved-match push_options known v.text v.patches is.names.targets))
 

@@ -3,7 +3,7 @@ use Rattle.patch_run.proofs.BackedUp.{backed_once}
 use Rattle.patch_run.proofs.Renaming.{renamed}
 use Rattle.patch_run.proofs.Keeping.{bare_keeps}
 use Rattle.patch_run.proofs.Skipping.{skipped_as, forced_skip, needed_skip}
-use Rattle.patch_run.proofs.SaidFirst.{run-first}
+use Rattle.patch_run.proofs.SaidFirst.{run-first, run-failing}
 use Rattle.patch_run.proofs.laws.run_laws.Goals as goal
 
 pub returns : goal.returns
@@ -16,6 +16,7 @@ returns c = record {
   once = λ o output front behind i j files w other vs going has. backed_once o output front behind i j files w other vs going has;
   renamed = λ t files s w x named moving is. renamed t files s w x named moving is;
   told = λ o output i items files. run-first o output i items files;
+  failing = λ o output i items files fails going. run-failing o output i items files fails going;
   bare = λ t side bytes is. bare_keeps t side bytes is;
   same = λ o output items files dry. dry_files o output items files dry;
 }

@@ -5,7 +5,7 @@ use Rattle.patch_set.specs.declared.fault.SetFault.TheVariants as faults
 use Rattle.patch_set.specs.Fresh.{AreWhole}
 use Rattle.patch_set.specs.Naming.{HaveTargets}
 use Rattle.patch_set.specs.Refusals.{refusal_of}
-use Rattle.patch_set.specs.Skipped.{skipped_lines}
+use Rattle.patch_set.specs.Skipped.{skipped_changes}
 use Rattle.patch_set.proofs.Made.{kept, made-set}
 use Rattle.outside.proofs.Exits.{if_ok_none}
 use Rattle.patch_set.proofs.Completing.{meets-memory}
@@ -39,7 +39,7 @@ returns-in_ok-untried-in-Ok c = record {
       made-set o c.args.text.items c.args.patches.items named.patches.items named.output
       c.in_ok-untried-in-Ok.field-0 is.text (is.ways ∙ c.ways_of.ensures) is.patches is.output
       (subst (λ t. HaveTargets o t c.args.patches.items named.patches.items named.output) c.deref.ensures.value c.in-Ok.ensures.targets)
-      c.in-Ok.ensures.lasting c.requires.whole.regions c.requires.whole.placed (is.skipped ∙ ap (λ w. skipped_lines w c.args.text.items) c.ways_of.ensures));
+      c.in-Ok.ensures.lasting c.requires.whole.regions c.requires.whole.placed (is.skipped ∙ ap (λ w. skipped_changes w c.args.text.items) c.ways_of.ensures));
   fresh = c.in_ok-untried-in-Ok.ensures.untried.fresh;
   whole = c.in_ok-untried-in-Ok.ensures.untried.whole;
   marks = c.in_ok-untried-in-Ok.ensures.marks ∙ c.are_asked.ensures;

@@ -41,5 +41,5 @@ returns-in_err-marks c = record {
 pub hunks_in-requires : goal.hunks_in-requires
 hunks_in-requires c = c.requires.hunks
 
-pub skipped_lines-requires : goal.skipped_lines-requires
-skipped_lines-requires c = c.requires.regions
+pub skipped_changes-requires : goal.skipped_changes-requires
+skipped_changes-requires c = c.requires.regions

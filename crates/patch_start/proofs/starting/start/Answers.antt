@@ -3,7 +3,7 @@ use Rattle.outside.specs.Files.{Files}
 use Rattle.outside.proofs.Writing.{writes_is}
 use Rattle.name_choice.specs.declared.Choice.{Choice}
 use Rattle.name_choice.specs.declared.Choice.TheVariants.{Existing, Create, Nothing}
-use Rattle.say_text.specs.Messages.{skipping_lines}
+use Rattle.patch_start.specs.Skipping.{changes_said}
 use Rattle.patch_task.specs.Turns.{Mark, PlainTurn}
 use Rattle.patch_start.specs.Start.{on_choice, choice_of, skipped_said, own_start, start}
 use Rattle.patch_task.specs.TaskView.{plain_task, with_past}
@@ -21,8 +21,8 @@ module _ (past : List Mark) (t : PlainTurn) (f : Files) where
   own_same : own_start t f ≡ own_start (with_past past t) f
   own_same = chosen_same (choice_of t f)
 
-said_if : (t : PlainTurn) (first other : Bool) → first ≡ other → (if other then skipping_lines t.item.skipped else []) ≡ (if first then skipping_lines t.item.skipped else [])
-said_if t first other is = ap (λ (b : Bool). if b then skipping_lines t.item.skipped else []) (sym is)
+said_if : (t : PlainTurn) (first other : Bool) → first ≡ other → (if other then changes_said t.options t.item.skipped else []) ≡ (if first then changes_said t.options t.item.skipped else [])
+said_if t first other is = ap (λ (b : Bool). if b then changes_said t.options t.item.skipped else []) (sym is)
 
 pub returns : goal.returns
 unfolding start
