@@ -46,6 +46,8 @@ test:
 	@sh tests/filters $(BIN)
 	@sh tests/killed $(BIN)
 	@sh tests/failing $(BIN)
+	@sh examples/demo $(BIN)
+	@sh examples/stop $(BIN)
 	@sh tests/commands $(BIN)
 	@python3 tests/scenarios $(BIN)
 	@sh tests/beside_patchutils $(BIN)
