@@ -9,7 +9,7 @@
 #               minutes each, NAMES='NAME ..' takes those alone, and tests/mutants --list says which script sees what
 # make peers    runs the suites of GNU patch, patchutils and quilt over what was built, beside the list of what fails there (tests/peers/expected);
 #               with PEER=gnu over GNU patch and patchutils themselves
-# make bench    draws bench/curve.svg: how time and memory grow, beside GNU patch; ten minutes on a quiet machine
+# make bench    draws bench/curve.svg: how time and memory grow, beside GNU patch; two minutes on a quiet machine
 # make install  installs the program, its manual and completions below PREFIX, with those of the tools and their names in lib/patchkit, where
 #               they hide no other's; without rt the program that was built before
 # make install-links  puts the tools' names, pages and completions beside all others below PREFIX; says which programs of the path they hide
