@@ -108,13 +108,6 @@ def modes_of_moved(case, _gnu, _ours, differences):
 
 
 @REASONS.of("git-links")
-def run_ends_at_link(case, _gnu, ours, differences):
-    """A file that git puts where a link is ends the run, and the rest isn't done."""
-    ended = ours.status == [2] and says(ours, b"tree fault") and names_of(parts_of(case), "link")
-    return differences if ended else []
-
-
-@REASONS.of("git-links")
 def links(case, _gnu, _ours, differences):
     """A link that git makes, changes, moves or takes away, and the status with it."""
     there = {name for name, entry in case.tree.items() if entry.kind == "link"}
@@ -175,8 +168,9 @@ def batch(case, _gnu, _ours, differences):
 
 @REASONS.of("git-hunks-alone")
 def hunks_alone(case, _gnu, _ours, differences):
-    """Hunks that stand directly behind git's header lines."""
-    return of_names(differences, all_names(part for part in parts_of(case) if "git" in part.marks and "named" not in part.marks and part.hunks))
+    """Hunks that stand directly behind git's header lines, of a file that is renamed or deleted."""
+    parts = [part for part in parts_of(case) if "git" in part.marks and "named" not in part.marks and part.hunks]
+    return of_names(differences, all_names(part for part in parts if part.marks & {"rename", "deleted file mode"}))
 
 
 @REASONS.of("blanks-in-git-names")

@@ -2,7 +2,7 @@
 import re
 
 from case import Reasons
-from seen import about, above, file_patches, hunks_of, names_of, of, original, refused, stop, texts_of, unreached, with_status
+from seen import about, file_patches, hunks_of, names_of, of, original, refused, stop, texts_of, unreached, with_status
 
 REASONS = Reasons()
 BUFFER = 1_048_572  # with the line feed
@@ -17,22 +17,15 @@ def obstacles(case):
 
 @REASONS.of("in-the-way")
 def in_the_way(case, gnu, ours, differences):
-    """A link or directory where a file, a backup or a reject should be."""
+    """A link or directory where a file, a backup or a reject should be; ours does nothing there, also where no backup and no reject comes."""
     odd, names = obstacles(case)
     barred = {name for name in names if odd & {name, name + b".rej", name + b".orig"}}
     found = about(case, of(differences, "missing", "extra", "kind"), {name + end for name in barred for end in (b"", b".rej", b".orig")} & odd)
     found += [each for each in about(case, of(differences, "missing", "extra"), barred) if each not in found]
-    if not odd or not stop(gnu, ours):
-        return found
-    return found + [each for each in unreached(case, gnu, ours, differences, stop(gnu, ours)) if each not in found]
-
-
-@REASONS.of("in-the-way")
-def file_on_the_way(case, gnu, ours, differences):
-    """A file where a directory should be: GNU patch skips the file patch, ours ends."""
-    parts = above({name for piece in file_patches(texts_of(case)) for name in names_of(case, piece)})
-    inside = any(original(case, part) is not None for part in parts)
-    return unreached(case, gnu, ours, differences, "ours") if inside and stop(gnu, ours) == "ours" else []
+    found += [each for each in of(differences, "bytes", names=barred) if each.ours == original(case, each.name)]
+    if not odd or stop(gnu, ours) != "gnu":
+        return with_status(found, gnu, ours, differences, (0, 1))
+    return found + [each for each in unreached(case, gnu, ours, differences, "gnu") if each not in found]
 
 
 @REASONS.of("links-on-the-way")
@@ -44,8 +37,6 @@ def links_on_the_way(case, gnu, ours, differences):
         behind = {b"real" + name[len(link):] for name in inside}
         found += about(case, of(differences, "missing"), inside | behind)
         found += [each for each in of(differences, "bytes", names=behind) if each.ours == original(case, each.name)]
-        if inside and stop(gnu, ours) == "ours":
-            found += [each for each in unreached(case, gnu, ours, differences, "ours") if each not in found]
     return with_status(found, gnu, ours, differences, (0, 1))
 
 

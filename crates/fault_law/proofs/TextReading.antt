@@ -26,7 +26,7 @@ use Rattle.header_record.specs.declared.Header.{Header}
 use Rattle.patch_header.specs.declared.openings.Stop.{Stop}
 use Rattle.patch_header.specs.declared.openings.Stop.TheVariants.{Opening, Binary, Bare}
 use Rattle.patch_header.specs.declared.ways.Ways.{Ways}
-use Rattle.patch_header.specs.Steps.{header_with, bare_with, header_at, IsFirstOpening}
+use Rattle.patch_header.specs.Steps.{header_with, bare_with, header_at, seen_for, IsFirstOpening}
 use Rattle.file_patch.specs.PlainPatch.{PlainChange, PlainPatch}
 use Rattle.patch_text.specs.Patches.{as_hunks, as_script, change_at, bare_change, change_behind}
 use Rattle.patch_text.specs.Texts.{GoesUpTo, Stand, ComesFault, IsFaulty}
@@ -58,7 +58,7 @@ further text at number own place next n parts count = record {
 
 header_place : (ways : Ways) (text : List ℕ) (place number : ℕ) (rs : List Row) (stop : Stop) (h : Header) → header_at ways text place number rs stop ≡ Some h → (place ≡ h.at) × (number ≡ h.opening)
 header_place ways text place number rs (Opening form) h e =
-    let is : header_with text form place number rs (led_by ways form rs) ≡ h = same_Some _ h e in
+    let is : header_with text form place number (seen_for ways form text rs) (led_by ways form rs) ≡ h = same_Some _ h e in
     (ap (λ (x : Header). x.at) is, ap (λ (x : Header). x.opening) is)
 header_place ways text place number rs Bare h e =
     let is : bare_with text place number rs ≡ h = same_Some _ h e in

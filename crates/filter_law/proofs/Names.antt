@@ -10,12 +10,11 @@ use Rattle.hunk_core.specs.declared.Form.{Form}
 use Rattle.hunk_core.specs.declared.Form.TheVariants.{Unified, Context, Normal, Ed}
 use Rattle.hunk_core.specs.LineTests.{after}
 use Rattle.hunk_core.proofs.TextLemmas.{after-takes}
-use Rattle.stamp.specs.declared.Stamp.TheVariants.{Unknown}
 use Rattle.patch_header.specs.Content.{content}
 use Rattle.patch_header.specs.GitHeaders.{action_of}
-use Rattle.patch_header.specs.GitRows.{led_by, lines_of}
+use Rattle.patch_header.specs.GitRows.{led_by, led_directly, lines_of}
 use Rattle.patch_header.specs.Region.{Row, first_some, new_tail, old_tail, rows}
-use Rattle.patch_header.specs.Steps.{header_with}
+use Rattle.patch_header.specs.Steps.{header_with, seen_for}
 use Rattle.patch_header.specs.Values.{bare_length, first, index_length, name_in, name_length, stamp_in, unblanked}
 use Rattle.header_record.specs.declared.Action.{Action}
 use Rattle.header_record.specs.declared.Action.TheVariants as actions
@@ -32,7 +31,7 @@ use Rattle.reading_law.proofs.Places.{StandsAt}
 use Rattle.reading_law.proofs.Lines.{content-closed}
 use Rattle.reading_law.proofs.Names.{GivesBack, NoTab, bare-before, clean-index, clean-said, front-gives, index-before, text_or_none}
 use Rattle.reading_law.proofs.Region.{IsShown}
-use Rattle.reading_law.proofs.Shown.{AreRows, CleanIn, IsRow, Shows, blanks-none, clean-behind, index-shows, line-clean, line-parts, name-shows, not-blank, region-rows}
+use Rattle.reading_law.proofs.Shown.{AreRows, CleanIn, IsRow, Shows, blanks-none, clean-behind, index-named-by, line-clean, line-parts, minus-shows, none-shows, not-blank, plus-shows, region-rows, stars-shows}
 use Rattle.filter_law.specs.ReadAgain.{IsGivenBack}
 
 -- ---- what holds of all names holds of the one
@@ -172,28 +171,25 @@ lines-all text (r ∷ rs) all = (all.0.whole, lines-all text rs all.1)
 
 module _ (ways : Ways) (text : List ℕ) (place number : ℕ) (rs : List Row) (all : AreRows text rs) where
   abbrev made : Form → Header
-  made form = header_with text form place number rs (led_by ways form rs)
+  made form = header_with text form place number (seen_for ways form text rs) (led_by ways form rs)
 
-  no-name : Shows text None Unknown None
-  no-name = record { line = λ m. refl; name = refl; stamp = refl; clean = tt }
+  old-shows : (form : Form) → (o : Option (List ℕ)) × Shows text (name_in text (old_tail form (seen_for ways form text rs))) (stamp_in text (old_tail form (seen_for ways form text rs))) o
+  old-shows Unified = minus-shows text rs all (led_directly ways Unified rs)
+  old-shows Context = stars-shows text rs all (led_directly ways Context rs)
+  old-shows Normal = (None, none-shows text)
+  old-shows Ed = (None, none-shows text)
 
-  old-shows : (form : Form) → (o : Option (List ℕ)) × Shows text (name_in text (old_tail form rs)) (stamp_in text (old_tail form rs)) o
-  old-shows Unified = name-shows text (codes "--- ") rs all
-  old-shows Context = name-shows text (codes "*** ") rs all
-  old-shows Normal = (None, no-name)
-  old-shows Ed = (None, no-name)
-
-  new-shows : (form : Form) → (o : Option (List ℕ)) × Shows text (name_in text (new_tail form rs)) (stamp_in text (new_tail form rs)) o
-  new-shows Unified = name-shows text (codes "+++ ") rs all
-  new-shows Context = name-shows text (codes "--- ") rs all
-  new-shows Normal = (None, no-name)
-  new-shows Ed = (None, no-name)
+  new-shows : (form : Form) → (o : Option (List ℕ)) × Shows text (name_in text (new_tail form (seen_for ways form text rs))) (stamp_in text (new_tail form (seen_for ways form text rs))) o
+  new-shows Unified = plus-shows text rs all (led_directly ways Unified rs)
+  new-shows Context = minus-shows text rs all (led_directly ways Context rs)
+  new-shows Normal = (None, none-shows text)
+  new-shows Ed = (None, none-shows text)
 
   source-of : (form : Form) → Source text (made form)
   source-of form =
       let os = old-shows form in
       let ns = new-shows form in
-      let x = index-shows text (codes "Index:") rs all in
+      let x = index-named-by text rs all (led_directly ways form rs) in
       let gs = led_by ways form rs in
       let led = led-all (IsRow text) ways form rs all in
       let to = to-clean (action_of (lines_of gs)) (lines_of gs) (lines-all text gs led) in

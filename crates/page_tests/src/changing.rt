@@ -66,6 +66,10 @@ impl Tree for ChangingFile {
         Ok(copy(bytes, at as usize, buf))
     }
 
+    fn is_barred(&mut self, _name: &Name, _link: bool) -> Result<bool, Failed> {
+        Ok(false)
+    }
+
     fn has_dir(&mut self, _name: &Name, _parts: u64) -> Result<bool, Failed> {
         Ok(false)
     }
@@ -79,6 +83,10 @@ impl Tree for ChangingFile {
     }
 
     fn set_executable(&mut self, _temp: &Name, _executable: bool) -> Result<(), Failed> {
+        self.fails()
+    }
+
+    fn set_link(&mut self, _temp: &Name) -> Result<(), Failed> {
         self.fails()
     }
 

@@ -14,6 +14,7 @@ use Rattle.patch_header.specs.Kept.{opening_said, bare_said}
 use Rattle.patch_header.specs.Region.{Row, row, rows, tail_of}
 use Rattle.patch_header.specs.Steps.{header_with, bare_with}
 use Rattle.patch_header.specs.declared.region.Tail.{Tail}
+use Rattle.patch_header.specs.declared.region.Seen.{Seen}
 use Rattle.header_record.specs.declared.Action.{Action}
 use Rattle.patch_header.specs.declared.git_lines.GitLines.{GitLines}
 use Rattle.header_record.specs.declared.Header.{Header}
@@ -24,10 +25,10 @@ use Rattle.patch_header.proofs.Stands.{and_left}
 abbrev turned : Header → Action → Option Span → Option Span → Header
 turned h a f t = record h { action = a; from = f; to = t }
 
-pub opening-is : (text : List ℕ) (form : Form) (at opening : ℕ) (rs gs : List Row) → opening_said text form at opening rs (git_lines_in gs) ≡ header_with text form at opening rs gs
-opening-is text form at opening rs gs =
+pub opening-is : (text : List ℕ) (form : Form) (at opening : ℕ) (seen : Seen) (gs : List Row) → opening_said text form at opening seen (git_lines_in gs) ≡ header_with text form at opening seen gs
+opening-is text form at opening seen gs =
     let s = git_lines_in gs in
-    let h = opening_said text form at opening rs s in
+    let h = opening_said text form at opening seen s in
     ap (λ a. turned h a h.from h.to) (action-is gs)
     ∙ ap (λ f. turned h (action_of (lines_of gs)) f h.to) (from-is gs)
     ∙ ap (λ t. turned h (action_of (lines_of gs)) (from_in gs) t) (to-is gs)

@@ -1,13 +1,14 @@
 -- What a search keeps of git headers is what their lines say.
 use Rattle.std.proofs.Common.{◌≡◌, ℕ, ◌+◌, Bool, true, false, cond, ◌&&◌, ◌||◌, List, [], ◌∷◌, ◌++◌, length, reverse, Option, None, Some, refl, ap, ◌∙◌}
 use Rattle.std.specs.Prelude.{is_some, unwrap_or, codes}
+use Rattle.std.specs.Option.{option_or}
 use Rattle.std.proofs.lemmas.List.{reverse-append}
 use Rattle.hunk_core.specs.declared.Form.{Form}
 use Rattle.patch_header.specs.Content.{content}
 use Rattle.patch_header.specs.GitHeaders.{starts, is_git_line, is_extended, has_line, action_of}
-use Rattle.patch_header.specs.GitRows.{lines_of, old_mode_of, new_mode_of, git_lines_in, from_by, to_by, from_in, to_in, with_row, header_back, old_name_back, new_name_back, led_rows, is_unified, led_by}
+use Rattle.patch_header.specs.GitRows.{lines_of, old_mode_of, new_mode_of, git_lines_in, from_by, to_by, from_in, to_in, with_row, header_back, old_name_back, new_name_back, led_rows, ends_with_git, is_unified, led_by, led_directly}
 use Rattle.patch_header.specs.Region.{Row, rows, tail_of, first_some, last_tail, later}
-use Rattle.patch_header.specs.Said.{said_with, action_said, from_by_said, to_by_said, from_said, to_said, push_said, header_said, kept_if, trail_said, said_in, trail_back, trail_in, or_nothing, led_said}
+use Rattle.patch_header.specs.Said.{said_with, action_said, from_by_said, to_by_said, from_said, to_said, push_said, header_said, kept_if, trail_said, said_in, trail_back, trail_in, or_nothing, led_in, led_said, leads_directly}
 use Rattle.patch_header.specs.declared.region.Tail.{Tail}
 use Rattle.patch_header.specs.declared.ways.Ways.{Ways}
 use Rattle.header_record.specs.declared.Action.{Action}
@@ -153,17 +154,30 @@ trail-push rs r = ap trail_back (reverse-append rs (r ∷ [])) ∙ back-push (re
 
 -- ---- what leads an opening
 
-nothing-is : (o : Option (List Row)) → or_nothing (said_in o) ≡ git_lines_in (unwrap_or o [])
-nothing-is None = refl
-nothing-is (Some rs) = refl
+nothing-is : (o p : Option (List Row)) → or_nothing (option_or (said_in o) (said_in p)) ≡ git_lines_in (unwrap_or (option_or o p) [])
+nothing-is None None = refl
+nothing-is None (Some rs) = refl
+nothing-is (Some rs) p = refl
 
 pub led-is : (ways : Ways) (form : Form) (t : GitTrail) (rs : List Row) → (ways.git ≡ true → t ≡ trail_in rs) → led_said ways form t ≡ git_lines_in (led_by ways form rs)
 led-is ways form t rs e = by ways.git (is_unified form) e
   where
-    by : (g u : Bool) → (g ≡ true → t ≡ trail_in rs) → cond (g && u) (or_nothing t.new_name) (git_lines_in []) ≡ git_lines_in (cond (g && u) (led_rows rs) [])
+    by : (g u : Bool) → (g ≡ true → t ≡ trail_in rs) → cond (g && u) (led_in t) (git_lines_in []) ≡ git_lines_in (cond (g && u) (led_rows rs) [])
     by false u k = refl
     by true false k = refl
-    by true true k = ap (λ x. or_nothing x.new_name) (k refl) ∙ nothing-is (new_name_back (reverse rs))
+    by true true k = ap led_in (k refl) ∙ nothing-is (new_name_back (reverse rs)) (header_back (reverse rs))
+
+said-there : (o : Option (List Row)) → is_some (said_in o) ≡ is_some o
+said-there None = refl
+said-there (Some rs) = refl
+
+pub directly-is : (ways : Ways) (form : Form) (t : GitTrail) (rs : List Row) → (ways.git ≡ true → t ≡ trail_in rs) → leads_directly ways form t ≡ led_directly ways form rs
+directly-is ways form t rs e = by ways.git (is_unified form) e
+  where
+    by : (g u : Bool) → (g ≡ true → t ≡ trail_in rs) → ((g && u) && is_some t.header) ≡ ((g && u) && ends_with_git rs)
+    by false u k = refl
+    by true false k = refl
+    by true true k = ap (λ x. is_some x.header) (k refl) ∙ said-there (header_back (reverse rs))
 
 pub no-led : (ways : Ways) (form : Form) (t : GitTrail) → ways.git ≡ false → led_said ways form t ≡ git_lines_in []
 no-led ways form t e = rw e refl

@@ -2,11 +2,12 @@
 use Rattle.std.proofs.Common.{◌≡◌, ◌↔◌, ℕ, suc, ◌+◌, ◌%◌, Bool, true, false, cond, not, ◌&&◌, ◌||◌, List, [], ◌∷◌, ◌++◌, length, reverse, take, drop, get_or, Some, refl, sym, ap, ◌∙◌, arith, append_assoc, length-append}
 use Rattle.std.specs.Prelude.{unwrap_or, codes, ◌==◌}
 use Rattle.std.specs.List.{AllByRecursion}
+use Rattle.std.specs.Option.{option_or}
 use Rattle.std.proofs.Math.Seq.{get_or-append_seam}
 use Rattle.std.proofs.lemmas.List.{append-nil, reverse-append, take-append-le, take_all}
 use Rattle.hunk_core.specs.LineTests.{after}
 use Rattle.patch_header.specs.Content.{content}
-use Rattle.patch_header.specs.GitHeaders.{starts, is_git_line, is_extended, extended_run, behind_run, has_line, action_of, is_plain, has_names, begins_bare}
+use Rattle.patch_header.specs.GitHeaders.{starts, is_git_line, is_extended, extended_run, behind_run, has_line, action_of, is_plain, leads, begins_bare}
 use Rattle.patch_header.specs.GitRows.{half, are_alike, has_halves, header_back, old_name_back, new_name_back, led_rows}
 use Rattle.patch_header.specs.Region.{Row}
 use Rattle.header_record.specs.declared.Action.{Action}
@@ -167,8 +168,8 @@ modes-words git rest h =
     let modes = modes-lines run h in
     let plain : action_of run ≡ Plain = action-by run
     ∙ plain-chosen (has_new run) (has_deleted run) (has_line (codes "rename from ") run) (has_line (codes "rename to ") run) (has_line (codes "copy from ") run) (has_line (codes "copy to ") run) modes.new modes.deleted modes.rename modes.copy in
-    ap (λ a. is_git_line git && (not (has_names (behind_run rest)) && not (is_plain a))) plain
-    ∙ no-more (is_git_line git) (not (has_names (behind_run rest)))
+    ap (λ a. is_git_line git && (not (leads (behind_run rest)) && not (is_plain a))) plain
+    ∙ no-more (is_git_line git) (not (leads (behind_run rest)))
 
 -- ---- what leads an opening
 
@@ -209,8 +210,8 @@ led-words front gs git old new hg hgs ho hn =
     ∙ ap (λ l. l ++ reverse front) (reverse-append (git ∷ []) ends)
     ∙ append_assoc (reverse ends) (git ∷ []) (reverse front)
     ∙ ap (λ l. l ++ back) (reverse-append gs (old ∷ new ∷ [])) in
-    ap (λ l. unwrap_or (new_name_back l) []) turned
-    ∙ ap (λ o. unwrap_or o []) (new-here new (old ∷ (reverse gs ++ back)) hn ∙ old-here old (reverse gs ++ back) ho ∙ header-run gs back [] hgs (header-here git (reverse front) hg))
+    ap (λ l. unwrap_or (option_or (new_name_back l) (header_back l)) []) turned
+    ∙ ap (λ o. unwrap_or (option_or o (header_back (new ∷ old ∷ (reverse gs ++ back)))) []) (new-here new (old ∷ (reverse gs ++ back)) hn ∙ old-here old (reverse gs ++ back) ho ∙ header-run gs back [] hgs (header-here git (reverse front) hg))
 
 -- ---- the halves
 

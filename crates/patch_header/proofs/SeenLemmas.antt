@@ -17,13 +17,14 @@ seen_with seen r = record {
   stars = later seen.stars (tail_of (codes "*** ") r);
   index = later seen.index (tail_of (codes "Index:") r);
   prereq = later seen.prereq (tail_of (codes "Prereq:") r);
+  git = later seen.git (tail_of (codes "diff --git ") r);
 }
 
 -- what was made field by field
 pub seen-made : (seen : Seen) (r : Row) (made : Seen) → made.minus ≡ later seen.minus (tail_of (codes "--- ") r) → made.plus ≡ later seen.plus (tail_of (codes "+++ ") r) → made.stars ≡ later seen.stars (tail_of (codes "*** ") r) → made.index ≡ later seen.index (tail_of (codes "Index:") r)
-    → made.prereq ≡ later seen.prereq (tail_of (codes "Prereq:") r) → made ≡ seen_with seen r
-seen-made seen r made a b c d e = λ i. record { minus = a i; plus = b i; stars = c i; index = d i; prereq = e i }
+    → made.prereq ≡ later seen.prereq (tail_of (codes "Prereq:") r) → made.git ≡ later seen.git (tail_of (codes "diff --git ") r) → made ≡ seen_with seen r
+seen-made seen r made a b c d e f = λ i. record { minus = a i; plus = b i; stars = c i; index = d i; prereq = e i; git = f i }
 
 pub seen-push : (seen : Seen) (rs : List Row) (r : Row) → seen ≡ seen_in rs → seen_with seen r ≡ seen_in (rs ++ r ∷ [])
 seen-push seen rs r is =
-    rw (is, tail-push (codes "--- ") rs r, tail-push (codes "+++ ") rs r, tail-push (codes "*** ") rs r, tail-push (codes "Index:") rs r, tail-push (codes "Prereq:") rs r) refl
+    rw (is, tail-push (codes "--- ") rs r, tail-push (codes "+++ ") rs r, tail-push (codes "*** ") rs r, tail-push (codes "Index:") rs r, tail-push (codes "Prereq:") rs r, tail-push (codes "diff --git ") rs r) refl

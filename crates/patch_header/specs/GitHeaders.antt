@@ -75,7 +75,11 @@ abbrev pub has_names : List (List ℕ) → Bool
 has_names [] = false
 has_names (line ∷ rest) = starts (codes "--- ") line && has_new_name rest
 
--- a bare git header begins these lines: no names and hunk follow it directly, and it says that a file is new, deleted, renamed or copied
+-- a git header leads what begins with these lines: a hunk, or lines of both names and a hunk
+abbrev pub leads : List (List ℕ) → Bool
+leads ls = begins_hunk ls || has_names ls
+
+-- a bare git header begins these lines: it leads nothing that follows it directly, and says that a file is new, deleted, renamed or copied
 unfoldable pub begins_bare : List (List ℕ) → Bool
 begins_bare [] = false
-begins_bare (line ∷ rest) = is_git_line line && (not (has_names (behind_run rest)) && not (is_plain (action_of (extended_run rest))))
+begins_bare (line ∷ rest) = is_git_line line && (not (leads (behind_run rest)) && not (is_plain (action_of (extended_run rest))))

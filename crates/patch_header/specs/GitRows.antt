@@ -1,6 +1,7 @@
 -- What the lines of a git header say, as lines of a text.
-use Rattle.std.specs.Prelude.{ℕ, ◌+◌, ◌-◌, ◌/◌, ◌%◌, ◌≤◌, Bool, true, false, ◌&&◌, ◌||◌, ◌==◌, nat_lt, List, [], ◌∷◌, ◌++◌, length, reverse, take, drop, get_or, bytes_eq, Option, None, Some, unwrap_or, codes, if◌then◌else◌}
+use Rattle.std.specs.Prelude.{ℕ, ◌+◌, ◌-◌, ◌/◌, ◌%◌, ◌≤◌, Bool, true, false, ◌&&◌, ◌||◌, ◌==◌, nat_lt, List, [], ◌∷◌, ◌++◌, length, reverse, take, drop, get_or, bytes_eq, is_some, Option, None, Some, unwrap_or, codes, if◌then◌else◌}
 use Rattle.std.specs.List.{position}
+use Rattle.std.specs.Option.{option_or}
 use Rattle.line_list.specs.declared.Span.{Span}
 use Rattle.hunk_core.specs.declared.Form.{Form}
 use Rattle.hunk_core.specs.declared.Form.TheVariants.{Unified, Context, Normal, Ed}
@@ -10,6 +11,7 @@ use Rattle.header_record.specs.Quoted.{begins_quoted}
 use Rattle.patch_header.specs.Values.{blanks, length_or, word_length, span_at, bytes_of}
 use Rattle.patch_header.specs.declared.bare.Pair.{Pair}
 use Rattle.patch_header.specs.declared.region.Tail.{Tail}
+use Rattle.patch_header.specs.declared.region.Seen.{Seen}
 use Rattle.patch_header.specs.declared.ways.Ways.{Ways}
 use Rattle.header_record.specs.declared.Action.{Action}
 use Rattle.header_record.specs.declared.Action.TheVariants.{Plain, New, Deleted, Rename, Copy}
@@ -149,6 +151,15 @@ abbrev pub new_half : List ℕ → Option Tail → Option Span
 new_half text None = None
 new_half text (Some t) = new_of t (both_names (bytes_of text t))
 
+-- the new name, as what stands in a line of its own
+abbrev pub name_tail : Tail → Option Pair → Option Tail
+name_tail t None = None
+name_tail t (Some p) = Some (record { number = t.number; start = t.start + p.start; end = t.start + p.start + p.new })
+
+abbrev pub git_name : List ℕ → Option Tail → Option Tail
+git_name text None = None
+git_name text (Some t) = name_tail t (both_names (bytes_of text t))
+
 -- ---- a git header that begins lines, the first with this number and at this place
 
 -- what stands in the git line behind its beginning
@@ -183,9 +194,13 @@ unfoldable pub new_name_back : List Row → Option (List Row)
 new_name_back [] = None
 new_name_back (r ∷ back) = if starts (codes "+++ ") r.line then old_name_back back else None
 
--- the extended lines of the git header behind which these lines end with those of both names; none where there is no such header
+-- the extended lines of the git header behind which these lines end with those of both names, or with which they end; none where there is no such header
 abbrev pub led_rows : List Row → List Row
-led_rows rs = unwrap_or (new_name_back (reverse rs)) []
+led_rows rs = unwrap_or (option_or (new_name_back (reverse rs)) (header_back (reverse rs))) []
+
+-- these lines end with a git header
+abbrev pub ends_with_git : List Row → Bool
+ends_with_git rs = is_some (header_back (reverse rs))
 
 abbrev pub is_unified : Form → Bool
 is_unified Unified = true
@@ -196,3 +211,11 @@ is_unified Ed = false
 -- the extended lines that count for an opening of a form behind these lines
 abbrev pub led_by : Ways → Form → List Row → List Row
 led_by ways form rs = if ways.git && is_unified form then led_rows rs else []
+
+-- a git header stands directly in front of an opening behind these lines, and leads it
+abbrev pub led_directly : Ways → Form → List Row → Bool
+led_directly ways form rs = (ways.git && is_unified form) && ends_with_git rs
+
+-- what names the file: where a git header stands directly in front, its git line alone, as an `Index:` line would
+abbrev pub seen_by : List ℕ → Bool → Seen → Seen
+seen_by text direct s = if direct then record { minus = None; plus = None; stars = None; index = git_name text s.git; prereq = s.prereq; git = s.git } else s

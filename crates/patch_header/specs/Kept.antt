@@ -9,22 +9,23 @@ use Rattle.patch_header.specs.Said.{action_said, from_said, to_said}
 use Rattle.patch_header.specs.Steps.{names_line}
 use Rattle.patch_header.specs.Values.{name_in, index_in, word_in, stamp_in}
 use Rattle.patch_header.specs.declared.region.Tail.{Tail}
+use Rattle.patch_header.specs.declared.region.Seen.{Seen}
 use Rattle.patch_header.specs.declared.git_lines.GitLines.{GitLines}
 use Rattle.header_record.specs.declared.Header.{Header}
 
 -- the header of an opening behind these lines, with what the git header says that leads it
-abbrev pub opening_said : List ℕ → Form → ℕ → ℕ → List Row → GitLines → Header
-opening_said text form at opening rs s = record {
+abbrev pub opening_said : List ℕ → Form → ℕ → ℕ → Seen → GitLines → Header
+opening_said text form at opening seen s = record {
   form = form;
   at = at;
   opening = opening;
-  names_line = names_line (old_tail form rs) (name_in text (old_tail form rs)) opening;
-  old_name = name_in text (old_tail form rs);
-  new_name = name_in text (new_tail form rs);
-  index = index_in text (last_tail (codes "Index:") rs);
-  prereq = word_in text (last_tail (codes "Prereq:") rs);
-  old_stamp = stamp_in text (old_tail form rs);
-  new_stamp = stamp_in text (new_tail form rs);
+  names_line = names_line (old_tail form seen) (name_in text (old_tail form seen)) opening;
+  old_name = name_in text (old_tail form seen);
+  new_name = name_in text (new_tail form seen);
+  index = index_in text seen.index;
+  prereq = word_in text seen.prereq;
+  old_stamp = stamp_in text (old_tail form seen);
+  new_stamp = stamp_in text (new_tail form seen);
   action = action_said s;
   bare = false;
   from = from_said s;

@@ -46,21 +46,22 @@ seen_in rs = record {
   stars = last_tail (codes "*** ") rs;
   index = last_tail (codes "Index:") rs;
   prereq = last_tail (codes "Prereq:") rs;
+  git = last_tail (codes "diff --git ") rs;
 }
 
 -- the last line of the old name: '--- ' in the unified form, '*** ' in the context form
-abbrev pub old_tail : Form → List Row → Option Tail
-old_tail Unified rs = last_tail (codes "--- ") rs
-old_tail Context rs = last_tail (codes "*** ") rs
-old_tail Normal rs = None
-old_tail Ed rs = None
+abbrev pub old_tail : Form → Seen → Option Tail
+old_tail Unified s = s.minus
+old_tail Context s = s.stars
+old_tail Normal s = None
+old_tail Ed s = None
 
 -- the last line of the new name: '+++ ' in the unified form, '--- ' in the context form
-abbrev pub new_tail : Form → List Row → Option Tail
-new_tail Unified rs = last_tail (codes "+++ ") rs
-new_tail Context rs = last_tail (codes "--- ") rs
-new_tail Normal rs = None
-new_tail Ed rs = None
+abbrev pub new_tail : Form → Seen → Option Tail
+new_tail Unified s = s.plus
+new_tail Context s = s.minus
+new_tail Normal s = None
+new_tail Ed s = None
 
 -- a tail lies in the text
 pub record LiesIn (text : List ℕ) (t : Tail) : Type 0 where
@@ -73,3 +74,4 @@ pub record AllLieIn (text : List ℕ) (s : Seen) : Type 0 where
   pub stars : IfSome s.stars (LiesIn text)
   pub index : IfSome s.index (LiesIn text)
   pub prereq : IfSome s.prereq (LiesIn text)
+  pub git : IfSome s.git (LiesIn text)

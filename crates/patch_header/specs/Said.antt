@@ -1,5 +1,6 @@
 -- What a search keeps of git headers while it passes their lines.
 use Rattle.std.specs.Prelude.{ℕ, Bool, ◌&&◌, ◌||◌, List, [], reverse, Option, None, Some, is_some, IfSome, codes, if◌then◌else◌}
+use Rattle.std.specs.Option.{option_or}
 use Rattle.line_list.specs.declared.Span.{Span}
 use Rattle.hunk_core.specs.declared.Form.{Form}
 use Rattle.patch_header.specs.GitHeaders.{starts, is_git_line, is_extended}
@@ -88,9 +89,16 @@ abbrev pub or_nothing : Option GitLines → GitLines
 or_nothing None = git_lines_in []
 or_nothing (Some s) = s
 
+-- the header that leads what follows
+abbrev pub led_in : GitTrail → GitLines
+led_in t = or_nothing (option_or t.new_name t.header)
+
 -- what counts for an opening of a form
 abbrev pub led_said : Ways → Form → GitTrail → GitLines
-led_said ways form t = if ways.git && is_unified form then or_nothing t.new_name else git_lines_in []
+led_said ways form t = if ways.git && is_unified form then led_in t else git_lines_in []
+
+abbrev pub leads_directly : Ways → Form → GitTrail → Bool
+leads_directly ways form t = (ways.git && is_unified form) && is_some t.header
 
 -- ---- what was kept lies in the text
 

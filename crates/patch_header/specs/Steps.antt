@@ -7,13 +7,14 @@ use Rattle.hunk_core.specs.declared.Form.TheVariants.{Unified}
 use Rattle.stamp.specs.declared.Stamp.TheVariants.{Unknown}
 use Rattle.patch_header.specs.Content.{has_dot}
 use Rattle.patch_header.specs.Openings.{admits, begins, stop_at}
-use Rattle.patch_header.specs.Region.{Row, rows, last_tail, old_tail, new_tail}
+use Rattle.patch_header.specs.Region.{Row, rows, last_tail, seen_in, old_tail, new_tail}
 use Rattle.patch_header.specs.GitHeaders.{action_of, begins_bare}
-use Rattle.patch_header.specs.GitRows.{lines_of, from_in, to_in, whole_in, old_mode_in, new_mode_in, old_half, new_half, git_rest, extended_rows, led_by}
+use Rattle.patch_header.specs.GitRows.{lines_of, from_in, to_in, whole_in, old_mode_in, new_mode_in, old_half, new_half, git_rest, extended_rows, led_by, led_directly, seen_by}
 use Rattle.patch_header.specs.Values.{name_in, index_in, word_in, stamp_in, IsPieceOf}
 use Rattle.patch_header.specs.declared.openings.Stop.{Stop}
 use Rattle.patch_header.specs.declared.openings.Stop.TheVariants as stops
 use Rattle.patch_header.specs.declared.region.Tail.{Tail}
+use Rattle.patch_header.specs.declared.region.Seen.{Seen}
 use Rattle.header_record.specs.declared.Header.{Header}
 use Rattle.patch_header.specs.declared.ways.Ways.{Ways}
 use Rattle.header_record.specs.declared.Action.TheVariants.{Plain}
@@ -38,18 +39,18 @@ names_line (Some t) None opening = opening
 names_line (Some t) (Some s) opening = t.number
 
 -- what the header of an opening says, by the lines in front of it, and by the extended lines of the git header that leads it
-abbrev pub header_with : List ℕ → Form → ℕ → ℕ → List Row → List Row → Header
-header_with text form at opening rs gs = record {
+abbrev pub header_with : List ℕ → Form → ℕ → ℕ → Seen → List Row → Header
+header_with text form at opening seen gs = record {
   form = form;
   at = at;
   opening = opening;
-  names_line = names_line (old_tail form rs) (name_in text (old_tail form rs)) opening;
-  old_name = name_in text (old_tail form rs);
-  new_name = name_in text (new_tail form rs);
-  index = index_in text (last_tail (codes "Index:") rs);
-  prereq = word_in text (last_tail (codes "Prereq:") rs);
-  old_stamp = stamp_in text (old_tail form rs);
-  new_stamp = stamp_in text (new_tail form rs);
+  names_line = names_line (old_tail form seen) (name_in text (old_tail form seen)) opening;
+  old_name = name_in text (old_tail form seen);
+  new_name = name_in text (new_tail form seen);
+  index = index_in text seen.index;
+  prereq = word_in text seen.prereq;
+  old_stamp = stamp_in text (old_tail form seen);
+  new_stamp = stamp_in text (new_tail form seen);
   action = action_of (lines_of gs);
   bare = false;
   from = from_in gs;
@@ -79,9 +80,13 @@ bare_with text at number rs = record {
   new_mode = whole_in (new_mode_in (extended_rows number at (lines (drop at text))));
 }
 
+-- what counts of the lines in front of an opening
+abbrev pub seen_for : Ways → Form → List ℕ → List Row → Seen
+seen_for ways form text rs = seen_by text (led_directly ways form rs) (seen_in rs)
+
 -- the header of what stands at a place behind these lines; a binary line has none
 abbrev pub header_at : Ways → List ℕ → ℕ → ℕ → List Row → Stop → Option Header
-header_at ways text place number rs (stops.Opening form) = Some (header_with text form place number rs (led_by ways form rs))
+header_at ways text place number rs (stops.Opening form) = Some (header_with text form place number (seen_for ways form text rs) (led_by ways form rs))
 header_at ways text place number rs stops.Bare = Some (bare_with text place number rs)
 header_at ways text place number rs stops.Binary = None
 

@@ -4,8 +4,8 @@ ghost use Rattle.std.specs.Prelude.{◌≡◌, ℕ, ◌<◌, ◌≤◌, ◌+◌,
 ghost use Rattle.std.specs.List.{position};
 ghost use Rattle.line_list.specs.Lines.{lines, IsLineAt};
 ghost use Rattle.patch_header.specs.Content.{has_dot};
-ghost use Rattle.patch_header.specs.GitHeaders.{git_header, extended_run, behind_run, action_of, is_plain, is_extended, has_new_name, has_names, begins_bare};
-ghost use Rattle.patch_header.specs.GitRows.{has_halves, half, halves, quoted_or_word, second, two_words, both_names, are_alike, old_half, new_half, FitsIn};
+ghost use Rattle.patch_header.specs.GitHeaders.{git_header, extended_run, behind_run, action_of, is_plain, is_extended, has_new_name, has_names, leads, begins_bare};
+ghost use Rattle.patch_header.specs.GitRows.{has_halves, half, halves, quoted_or_word, second, two_words, both_names, are_alike, old_half, new_half, git_name, FitsIn};
 ghost use Rattle.patch_header.specs.Openings.{begins_binary, tells_binary};
 ghost use Rattle.patch_header.specs.Said.{SaysWithin};
 ghost use Rattle.patch_header.specs.Kept.{bare_said};
@@ -93,14 +93,22 @@ fn has_names(text: &[u8], at: usize) -> bool
     }
 }
 
-/// Whether the extended lines from a place on say more than modes, and no hunk with names follows them.
+/// Whether a git header leads what stands here: a hunk, or lines of both names and a hunk.
+fn leads(text: &[u8], at: usize) -> bool
+    requires { at ≤ length text.now }
+    ensures { result ≡ leads (lines (drop at text.now)) }
+{
+    unified_form::at_opening(text, at) || has_names(text, at)
+}
+
+/// Whether the extended lines from a place on say more than modes, and lead nothing behind them.
 fn says_more(text: &[u8], at: usize) -> bool
     requires short { length text.now < 2 ^ 32 }
     requires within { at ≤ length text.now }
-    ensures { result ≡ (not (has_names (behind_run (lines (drop at text.now)))) && not (is_plain (action_of (extended_run (lines (drop at text.now)))))) }
+    ensures { result ≡ (not (leads (behind_run (lines (drop at text.now)))) && not (is_plain (action_of (extended_run (lines (drop at text.now)))))) }
 {
     let block = extended_from(text, at, 0);
-    !has_names(text, block.end) && !is_plain(action_of(block.lines))
+    !leads(text, block.end) && !is_plain(action_of(block.lines))
 }
 
 /// Whether a bare git header begins with the line from `at` up to `end`. It looks ahead over its
@@ -291,6 +299,25 @@ fn new_half(text: &[u8], tail: Option<Tail>) -> Option<Span>
         Some(tail) => match both_names(&text[tail.start..tail.end]) {
             None => None,
             Some(pair) => span_at(tail.start + pair.start, pair.new),
+        },
+    }
+}
+
+/// The new name of a git line, as what stands in a line of its own.
+pub fn git_name(text: &[u8], rest: Option<Tail>) -> Option<Tail>
+    requires { IfSome rest (LiesIn text.now) }
+    ensures is { result ≡ git_name text.now rest }
+    ensures lies { IfSome result (LiesIn text.now) }
+{
+    match rest {
+        None => None,
+        Some(rest) => match both_names(&text[rest.start..rest.end]) {
+            None => None,
+            Some(pair) => Some(Tail {
+                number: rest.number,
+                start: rest.start + pair.start,
+                end: rest.start + pair.start + pair.new,
+            }),
         },
     }
 }

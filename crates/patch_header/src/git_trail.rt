@@ -1,10 +1,11 @@
 //! What a search keeps of the git header that it has just passed.
 
 ghost use Rattle.std.specs.Prelude.{◌≡◌, ◌&&◌, ℕ, true, List, [], slice_range, IfSome};
+ghost use Rattle.std.specs.Option.{option_or};
 ghost use Rattle.line_list.specs.Lines.{IsLineAt};
 ghost use Rattle.patch_header.specs.Region.{row};
 ghost use Rattle.patch_header.specs.GitRows.{is_unified};
-ghost use Rattle.patch_header.specs.Said.{header_said, kept_if, trail_said, trail_in, or_nothing, led_said, SaysWithin, TrailsWithin};
+ghost use Rattle.patch_header.specs.Said.{header_said, kept_if, trail_said, trail_in, led_in, led_said, leads_directly, SaysWithin, TrailsWithin};
 ghost use Rattle.patch_header.specs.declared.ways.Ways.{Ways};
 
 use crate::git_lines::{GitLines, is_extended, is_git_line, no_git_lines, starts, with_line};
@@ -103,12 +104,23 @@ pub fn trail_behind(
     }
 }
 
-/// The extended lines that both names stand behind.
-fn led_lines(trail: GitTrail) -> GitLines
-    ensures is { result ≡ or_nothing trail.new_name }
-    ensures lies { (text : List ℕ) → TrailsWithin text trail → SaysWithin text result }
+/// The header that leads what follows: both names stand behind it, or nothing does.
+fn leading(trail: GitTrail) -> Option<GitLines>
+    ensures is { result ≡ option_or trail.new_name trail.header }
+    ensures lies { (text : List ℕ) → TrailsWithin text trail → IfSome result (SaysWithin text) }
 {
     match trail.new_name {
+        None => trail.header,
+        Some(_) => trail.new_name,
+    }
+}
+
+/// Its extended lines.
+fn led_lines(trail: GitTrail) -> GitLines
+    ensures is { result ≡ led_in trail }
+    ensures lies { (text : List ℕ) → TrailsWithin text trail → SaysWithin text result }
+{
+    match leading(trail) {
         None => no_git_lines(),
         Some(lines) => lines,
     }
@@ -139,4 +151,11 @@ pub fn led_by(ways: Ways, form: Form, trail: GitTrail) -> GitLines
     } else {
         no_git_lines()
     }
+}
+
+/// Whether a git header stands directly in front of an opening of this form, and leads it.
+pub fn leads_directly(ways: Ways, form: Form, trail: GitTrail) -> bool
+    ensures { result ≡ leads_directly ways form trail }
+{
+    counts(ways, form) && trail.header.is_some()
 }

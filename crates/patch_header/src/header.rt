@@ -1,13 +1,14 @@
 //! What the lines in front of an opening say.
 
 ghost use Rattle.std.specs.Prelude.{◌≡◌, ◌<◌, ◌^◌, false, List, [], ℕ, length, IfSome};
-ghost use Rattle.patch_header.specs.Region.{Row, seen_in, old_tail, new_tail, LiesIn, AllLieIn};
+ghost use Rattle.patch_header.specs.Region.{old_tail, new_tail, LiesIn, AllLieIn};
 ghost use Rattle.patch_header.specs.Values.{IsPieceOf};
-ghost use Rattle.patch_header.specs.GitRows.{git_lines_in};
+ghost use Rattle.patch_header.specs.GitRows.{git_lines_in, seen_by};
 ghost use Rattle.patch_header.specs.Said.{SaysWithin};
 ghost use Rattle.patch_header.specs.Steps.{names_line, HasPieces, IsUnled};
 ghost use Rattle.patch_header.specs.Kept.{opening_said};
 
+use crate::bare::git_name;
 use crate::git_lines::{GitLines, action_of, from_in, to_in};
 use crate::region::{Seen, Tail};
 use crate::values::{index_in, name_in, stamp_in, whole_in, word_in};
@@ -27,8 +28,27 @@ fn names_line(tail: Option<Tail>, name: Option<Span>, opening: u64) -> u64
     }
 }
 
+/// What names the file: where a git header stands directly in front, its git line alone, as an `Index:` line would.
+pub fn seen_by(text: &[u8], direct: bool, seen: Seen) -> Seen
+    requires { AllLieIn text.now seen }
+    ensures is { result ≡ seen_by text.now direct seen }
+    ensures lies { AllLieIn text.now result }
+{
+    if !direct {
+        return seen;
+    }
+    Seen {
+        minus: None,
+        plus: None,
+        stars: None,
+        index: git_name(text, seen.git),
+        prereq: seen.prereq,
+        git: seen.git,
+    }
+}
+
 fn old_tail(form: Form, seen: Seen) -> Option<Tail>
-    ensures is { (rs : List Row) → seen ≡ seen_in rs → result ≡ old_tail form rs }
+    ensures is { result ≡ old_tail form seen }
     ensures lies { (text : List ℕ) → AllLieIn text seen → IfSome result (LiesIn text) }
 {
     match form {
@@ -39,7 +59,7 @@ fn old_tail(form: Form, seen: Seen) -> Option<Tail>
 }
 
 fn new_tail(form: Form, seen: Seen) -> Option<Tail>
-    ensures is { (rs : List Row) → seen ≡ seen_in rs → result ≡ new_tail form rs }
+    ensures is { result ≡ new_tail form seen }
     ensures lies { (text : List ℕ) → AllLieIn text seen → IfSome result (LiesIn text) }
 {
     match form {
@@ -66,7 +86,7 @@ pub fn header_of(
     ensures opening { result.opening ≡ opening }
     ensures bare { result.bare ≡ false }
     ensures plain { led ≡ git_lines_in [] → IsUnled result }
-    ensures says { (rs : List Row) → seen ≡ seen_in rs → result ≡ opening_said text.now form at opening rs led }
+    ensures says { result ≡ opening_said text.now form at opening seen led }
     ensures pieces { HasPieces text.now result }
 {
     let old = old_tail(form, seen);

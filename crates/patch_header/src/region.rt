@@ -15,7 +15,7 @@ pub struct Tail {
     pub end: usize,
 }
 
-/// The last line of each kind so far: `--- `, `+++ `, `*** `, `Index:` and `Prereq:`.
+/// The last line of each kind so far: `--- `, `+++ `, `*** `, `Index:`, `Prereq:` and `diff --git `.
 #[derive(Clone, Copy)]
 pub struct Seen {
     pub minus: Option<Tail>,
@@ -23,6 +23,7 @@ pub struct Seen {
     pub stars: Option<Tail>,
     pub index: Option<Tail>,
     pub prereq: Option<Tail>,
+    pub git: Option<Tail>,
 }
 
 /// No line so far.
@@ -35,6 +36,7 @@ pub fn nothing_seen() -> Seen
         stars: None,
         index: None,
         prereq: None,
+        git: None,
     }
 }
 
@@ -78,5 +80,6 @@ pub fn passed(seen: Seen, number: u64, text: &[u8], at: usize, end: usize) -> Se
         stars: later(seen.stars, tail_of(b"*** ", number, text, at, end)),
         index: later(seen.index, tail_of(b"Index:", number, text, at, end)),
         prereq: later(seen.prereq, tail_of(b"Prereq:", number, text, at, end)),
+        git: later(seen.git, tail_of(b"diff --git ", number, text, at, end)),
     }
 }

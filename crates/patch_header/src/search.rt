@@ -13,8 +13,8 @@ ghost use Rattle.header_record.specs.declared.Header.{Header};
 ghost use Rattle.patch_header.specs.declared.ways.Ways.{Ways};
 
 use crate::bare::bare_of;
-use crate::git_trail::{GitTrail, led_by, no_trail, trail_behind};
-use crate::header::header_of;
+use crate::git_trail::{GitTrail, leads_directly, led_by, no_trail, trail_behind};
+use crate::header::{header_of, seen_by};
 use crate::openings::{Stop, lacks_dot, stop_at};
 use crate::region::{Seen, nothing_seen, passed};
 use crate::ways::{Ways, with_git};
@@ -56,7 +56,8 @@ fn step_of(text: &[u8], ways: Ways, stop: Stop, here: Search, end: usize) -> Hea
     match stop {
         Stop::Opening(form) => {
             let led = led_by(ways, form, here.trail);
-            HeaderStep::Found(header_of(text, form, here.at, here.number, here.seen, led))
+            let seen = seen_by(text, leads_directly(ways, form, here.trail), here.seen);
+            HeaderStep::Found(header_of(text, form, here.at, here.number, seen, led))
         }
         Stop::Binary => HeaderStep::Binary { line: here.number },
         Stop::Bare => HeaderStep::Found(bare_of(text, here.at, end, here.number, here.seen)),

@@ -9,14 +9,15 @@ use Rattle.hunk_core.specs.declared.Form.{Form}
 use Rattle.hunk_core.specs.declared.Form.TheVariants.{Unified, Context, Normal, Ed}
 use Rattle.hunk_core.specs.LineTests.{after}
 use Rattle.patch_header.specs.Content.{content}
-use Rattle.patch_header.specs.Region.{Row, rows, tail_of, first_some, last_tail, old_tail}
+use Rattle.patch_header.specs.Region.{Row, rows, tail_of, first_some, last_tail, seen_in, old_tail}
 use Rattle.patch_header.specs.Values.{name_in}
 use Rattle.patch_header.specs.declared.ways.Ways.{Ways}
-use Rattle.patch_header.specs.Steps.{names_line, header_with, bare_with, header_at, IsFirstOpening, LiesBehind}
-use Rattle.patch_header.specs.GitRows.{led_by}
+use Rattle.patch_header.specs.Steps.{names_line, seen_for, header_with, bare_with, header_at, IsFirstOpening, LiesBehind}
+use Rattle.patch_header.specs.GitRows.{led_by, led_directly, seen_by}
 use Rattle.patch_header.specs.declared.openings.Stop.{Stop}
 use Rattle.patch_header.specs.declared.openings.Stop.TheVariants.{Opening, Binary, Bare}
 use Rattle.patch_header.specs.declared.region.Tail.{Tail}
+use Rattle.patch_header.specs.declared.region.Seen.{Seen}
 use Rattle.header_record.specs.declared.Header.{Header}
 use Rattle.patch_text.specs.Reading.{IsHeaderFrom}
 use Rattle.patch_text.proofs.ChangeLemmas.{opens-change}
@@ -58,11 +59,18 @@ first-before n mark (x ∷ xs) h = by (is_some (tail_of mark x)) (tail-before n 
 last-before : (n line start : ℕ) (mark : List ℕ) (ls : List (List ℕ)) → line + length ls ≤ n → EndsBefore n (last_tail mark (rows line start ls))
 last-before n line start mark ls le = first-before n mark (reverse (rows line start ls)) (all-turned n (rows line start ls) (rows-before n line start ls le))
 
-old-before : (n line start : ℕ) (form : Form) (ls : List (List ℕ)) → line + length ls ≤ n → EndsBefore n (old_tail form (rows line start ls))
+old-before : (n line start : ℕ) (form : Form) (ls : List (List ℕ)) → line + length ls ≤ n → EndsBefore n (old_tail form (seen_in (rows line start ls)))
 old-before n line start Unified ls le = last-before n line start (45 ∷ 45 ∷ 45 ∷ 32 ∷ []) ls le
 old-before n line start Context ls le = last-before n line start (42 ∷ 42 ∷ 42 ∷ 32 ∷ []) ls le
 old-before n line start Normal ls le = tt
 old-before n line start Ed ls le = tt
+
+counted-before : (n : ℕ) (text : List ℕ) (direct : Bool) (s : Seen) (form : Form) → EndsBefore n (old_tail form s) → EndsBefore n (old_tail form (seen_by text direct s))
+counted-before n text false s form h = h
+counted-before n text true s Unified h = tt
+counted-before n text true s Context h = tt
+counted-before n text true s Normal h = tt
+counted-before n text true s Ed h = tt
 
 line-before : (n : ℕ) (t : Option Tail) (name : Option Span) → EndsBefore n t → names_line t name n ≤ n
 line-before n None name h = omega arith
@@ -72,9 +80,10 @@ line-before n (Some t) (Some s) h = omega (arith, h)
 header-before : (ways : Ways) (text : List ℕ) (place line start : ℕ) (region : List (List ℕ)) (h : Header) (stop : Stop) → header_at ways text place (line + length region) (rows line start region) stop ≡ Some h → h.names_line ≤ h.opening
 header-before ways text place line start region h (Opening form) e =
     let n = line + length region in
-    let t = old_tail form (rows line start region) in
-    let same : h ≡ header_with text form place n (rows line start region) (led_by ways form (rows line start region)) = sym (ap (λ o. unwrap_or o h) e) in
-    rw same (line-before n t (name_in text t) (old-before n line start form region (omega arith)))
+    let rs = rows line start region in
+    let t = old_tail form (seen_for ways form text rs) in
+    let same : h ≡ header_with text form place n (seen_for ways form text rs) (led_by ways form rs) = sym (ap (λ o. unwrap_or o h) e) in
+    rw same (line-before n t (name_in text t) (counted-before n text (led_directly ways form rs) (seen_in rs) form (old-before n line start form region (omega arith))))
 header-before ways text place line start region h Bare e =
     let same : h ≡ bare_with text place (line + length region) (rows line start region) = sym (ap (λ o. unwrap_or o h) e) in
     rw same (omega arith)

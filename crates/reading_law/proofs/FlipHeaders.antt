@@ -19,7 +19,7 @@ use Rattle.file_patch.specs.Actions.{is_moved}
 use Rattle.file_patch.specs.PlainPatch.{PlainHeader}
 use Rattle.patch_set.specs.PlainName.{better_of, file_name, plain_name}
 use Rattle.flip_patch.specs.HeaderText.{index_line, names_file}
-use Rattle.reading_law.specs.Said.{behind, header_behind, from_by, index_named, last_behind, led_lines, name_said, new_line, old_line, stamp_said, to_by, word_said}
+use Rattle.reading_law.specs.Said.{behind, header_behind, from_by, index_named, is_direct, last_behind, led_lines, name_said, new_line, old_line, stamp_said, to_by, word_said}
 use Rattle.reading_law.proofs.HeaderLines.{all-reverse}
 use Rattle.patch_header.specs.Written.{holds_space, name_end}
 use Rattle.reading_law.proofs.Lines.{Kind, Minus, Plus, Stars, Index, content-closed, git-none, line_of, mark}
@@ -191,12 +191,23 @@ no-new (r ∷ rs) all = rw (no-old rs all.1) (by (starts (codes "+++ ") r.line))
 
 none-leads : (ways : Ways) (form : Form) (hs : List Head) → led_lines ways form (head_lines hs) ≡ []
 none-leads ways form hs =
-    let none : led_rows (rows 0 0 (head_lines hs)) ≡ [] = ap (λ o. unwrap_or o []) (no-new (reverse (rows 0 0 (head_lines hs))) (all-reverse (λ (r : Row). is_git_line r.line ≡ false) (rows 0 0 (head_lines hs)) (all-rows 0 0 hs))) in
+    let back = reverse (rows 0 0 (head_lines hs)) in
+    let all = all-reverse (λ (r : Row). is_git_line r.line ≡ false) (rows 0 0 (head_lines hs)) (all-rows 0 0 hs) in
+    let none : led_rows (rows 0 0 (head_lines hs)) ≡ [] = ap (λ o. unwrap_or (option_or o (header_back back)) []) (no-new back all) ∙ ap (λ o. unwrap_or o []) (no-header back all) in
     by (ways.git && is_unified form) none
   where
     by : (v : Bool) → led_rows (rows 0 0 (head_lines hs)) ≡ [] → lines_of (cond v (led_rows (rows 0 0 (head_lines hs))) []) ≡ []
     by true e = ap lines_of e
     by false e = refl
+
+none-directly : (ways : Ways) (form : Form) (hs : List Head) → is_direct ways form (head_lines hs) ≡ false
+none-directly ways form hs =
+    ap (λ o. (ways.git && is_unified form) && is_some o) (no-header (reverse (rows 0 0 (head_lines hs))) (all-reverse (λ (r : Row). is_git_line r.line ≡ false) (rows 0 0 (head_lines hs)) (all-rows 0 0 hs)))
+    ∙ by (ways.git && is_unified form)
+  where
+    by : (v : Bool) → (v && false) ≡ false
+    by true = refl
+    by false = refl
 
 -- ---- what is read
 
@@ -243,9 +254,10 @@ unfolding action_of
 plain-none = refl
 
 pub behind-is : (ways : Ways) (form : Form) (hs : List Head) (old new index : Option (List ℕ)) → old_line form (head_lines hs) ≡ old → new_line form (head_lines hs) ≡ new → last_behind (codes "Index:") (head_lines hs) ≡ index → last_behind (codes "Prereq:") (head_lines hs) ≡ None
-    → header_behind form (head_lines hs) (led_lines ways form (head_lines hs)) ≡ read_header form (name_said old) (name_said new) (index_named index) (stamp_said old) (stamp_said new)
+    → header_behind form (head_lines hs) (is_direct ways form (head_lines hs)) (led_lines ways form (head_lines hs)) ≡ read_header form (name_said old) (name_said new) (index_named index) (stamp_said old) (stamp_said new)
 behind-is ways form hs old new index a b c d =
-    ap (header_behind form (head_lines hs)) (none-leads ways form hs)
+    ap (λ v. header_behind form (head_lines hs) v (led_lines ways form (head_lines hs))) (none-directly ways form hs)
+    ∙ ap (header_behind form (head_lines hs) false) (none-leads ways form hs)
     ∙ ap (with_action form (old_line form (head_lines hs)) (new_line form (head_lines hs)) (last_behind (codes "Index:") (head_lines hs)) (last_behind (codes "Prereq:") (head_lines hs))) plain-none
     ∙ ap (λ o. with_action form o (new_line form (head_lines hs)) (last_behind (codes "Index:") (head_lines hs)) (last_behind (codes "Prereq:") (head_lines hs)) actions.Plain) a
     ∙ ap (λ o. with_action form old o (last_behind (codes "Index:") (head_lines hs)) (last_behind (codes "Prereq:") (head_lines hs)) actions.Plain) b

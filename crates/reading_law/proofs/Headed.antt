@@ -11,11 +11,10 @@ use Rattle.hunk_core.specs.declared.Form.{Form}
 use Rattle.hunk_core.specs.declared.Form.TheVariants.{Unified, Context, Normal, Ed}
 use Rattle.hunk_core.specs.declared.Side.TheVariants.{Reversed}
 use Rattle.unified_form.proofs.Canonical.{closes}
-use Rattle.stamp.specs.declared.Stamp.TheVariants.{Unknown}
 use Rattle.patch_header.specs.GitHeaders.{action_of}
-use Rattle.patch_header.specs.GitRows.{led_by, lines_of}
+use Rattle.patch_header.specs.GitRows.{led_by, led_directly, lines_of}
 use Rattle.patch_header.specs.Region.{Row, rows}
-use Rattle.patch_header.specs.Steps.{AreQuiet, header_with}
+use Rattle.patch_header.specs.Steps.{AreQuiet, header_with, seen_for}
 use Rattle.header_record.specs.declared.Header.{Header}
 use Rattle.patch_header.specs.declared.openings.Stop.TheVariants.{Opening}
 use Rattle.patch_header.specs.declared.ways.Ways.{Ways}
@@ -30,7 +29,7 @@ use Rattle.reading_law.proofs.Hunks.{IsHunkForm}
 use Rattle.reading_law.proofs.Names.{text_or_none}
 use Rattle.reading_law.proofs.Lines.{Kind, Minus, Plus, Stars, Index, line_of, mark, quiet-line}
 use Rattle.reading_law.proofs.Region.{IsShown}
-use Rattle.reading_law.proofs.Shown.{AreRows, CleanIn, Shows, index-shows, name-shows, opt_line, region-rows}
+use Rattle.reading_law.proofs.Shown.{AreRows, CleanIn, Shows, index-named-by, minus-shows, none-shows, opt_line, plus-shows, region-rows, stars-shows}
 
 -- ---- lines of heads
 
@@ -153,16 +152,16 @@ stars-is e = cc
 
 module _ (ways : Ways) (text : List ℕ) (place number : ℕ) (rs : List Row) (all : AreRows text rs) where
   abbrev made : Form → Header
-  made form = header_with text form place number rs (led_by ways form rs)
+  made form = header_with text form place number (seen_for ways form text rs) (led_by ways form rs)
 
   none-to : (form : Form) → is_moved (action_of (lines_of (led_by ways form rs))) ≡ false → bytes_in text (made form).to ≡ None
   none-to form e = ap (bytes_in text) (to-none (action_of (lines_of (led_by ways form rs))) (led_by ways form rs) e)
 
   unified-named : is_moved (action_of (lines_of (led_by ways Unified rs))) ≡ false → Headed ways text Unified (made Unified)
   unified-named e =
-      let ns = name-shows text (codes "+++ ") rs all in
-      let os = name-shows text (codes "--- ") rs all in
-      let x = index-shows text (codes "Index:") rs all in
+      let ns = plus-shows text rs all (led_directly ways Unified rs) in
+      let os = minus-shows text rs all (led_directly ways Unified rs) in
+      let x = index-named-by text rs all (led_directly ways Unified rs) in
       let n : Named text Unified (made Unified) Minus Plus ns.0 os.0 x.0 = record {
         form_is = refl;
         news = ns.1;
@@ -182,9 +181,9 @@ module _ (ways : Ways) (text : List ℕ) (place number : ℕ) (rs : List Row) (a
 
   context-named : is_moved (action_of (lines_of (led_by ways Context rs))) ≡ false → Headed ways text Context (made Context)
   context-named e =
-      let ns = name-shows text (codes "--- ") rs all in
-      let os = name-shows text (codes "*** ") rs all in
-      let x = index-shows text (codes "Index:") rs all in
+      let ns = minus-shows text rs all (led_directly ways Context rs) in
+      let os = stars-shows text rs all (led_directly ways Context rs) in
+      let x = index-named-by text rs all (led_directly ways Context rs) in
       let n : Named text Context (made Context) Stars Minus ns.0 os.0 x.0 = record {
         form_is = refl;
         news = ns.1;
@@ -202,16 +201,13 @@ module _ (ways : Ways) (text : List ℕ) (place number : ℕ) (rs : List Row) (a
       } in
       headed ways text Context (made Context) Stars Minus ns.0 os.0 x.0 n
 
-  no-name : Shows text None Unknown None
-  no-name = record { line = λ m. refl; name = refl; stamp = refl; clean = tt }
-
   normal-named : is_moved (action_of (lines_of (led_by ways Normal rs))) ≡ false → Headed ways text Normal (made Normal)
   normal-named e =
-      let x = index-shows text (codes "Index:") rs all in
+      let x = index-named-by text rs all (led_directly ways Normal rs) in
       let n : Named text Normal (made Normal) Minus Plus None None x.0 = record {
         form_is = refl;
-        news = no-name;
-        olds = no-name;
+        news = none-shows text;
+        olds = none-shows text;
         index_name = x.1.name;
         index_clean = x.1.clean;
         no_to = none-to Normal e;

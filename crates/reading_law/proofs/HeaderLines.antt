@@ -12,7 +12,7 @@ use Rattle.hunk_core.proofs.TextLemmas.{after-takes}
 use Rattle.patch_header.specs.Content.{content}
 use Rattle.patch_header.specs.GitHeaders.{action_of}
 use Rattle.patch_header.specs.GitRows as git
-use Rattle.patch_header.specs.Region.{Row, tail_of, first_some, last_tail, later, old_tail, new_tail}
+use Rattle.patch_header.specs.Region.{Row, tail_of, first_some, last_tail, later, seen_in, old_tail, new_tail}
 use Rattle.patch_header.specs.Values.{is_blank, is_white, first, blanks, unblanked, bare_length, length_or, name_length, index_length, word_length, span_at, bytes_of, name_in, index_in, word_in, stamp_in}
 use Rattle.header_record.specs.Quoted.{quoted_length}
 use Rattle.header_record.proofs.Quotes.{quoted-fits}
@@ -111,14 +111,14 @@ last-made text tail bytes f g none each rs h =
     first-alike text tail bytes f g none each (reverse rs) (all-reverse (StandsAt text) rs h)
     ∙ ap (λ ls. g (first_some bytes ls)) (lines-reverse rs)
 
-tail-there : (mark : List ℕ) (r : Row) → is_some (tail_of mark r) ≡ is_some (behind mark r.line)
+pub tail-there : (mark : List ℕ) (r : Row) → is_some (tail_of mark r) ≡ is_some (behind mark r.line)
 tail-there mark r = by (after mark (content r.line)) refl
   where
     by : (o : Option (List ℕ)) → after mark (content r.line) ≡ o → is_some (tail_of mark r) ≡ is_some (behind mark r.line)
     by None e = rw e refl
     by (Some rest) e = rw e refl
 
-last-alike : {X : Type 0} (text mark : List ℕ) (f : Option Tail → X) (g : Option (List ℕ) → X) → f None ≡ g None → ((r : Row) → StandsAt text r → f (tail_of mark r) ≡ g (behind mark r.line))
+pub last-alike : {X : Type 0} (text mark : List ℕ) (f : Option Tail → X) (g : Option (List ℕ) → X) → f None ≡ g None → ((r : Row) → StandsAt text r → f (tail_of mark r) ≡ g (behind mark r.line))
     → (rs : List Row) → AllByRecursion (StandsAt text) rs → f (last_tail mark rs) ≡ g (last_behind mark (git.lines_of rs))
 last-alike text mark f g none each = last-made text (tail_of mark) (behind mark) f g none (λ r s. record { there = tail-there mark r; made = each r s })
 
@@ -208,25 +208,25 @@ module _ (text : List ℕ) (rs : List Row) (all : AllByRecursion (StandsAt text)
   stamp-said : (mark : List ℕ) → stamp_in text (last_tail mark rs) ≡ stamp_said (last_behind mark (git.lines_of rs))
   stamp-said mark = last-alike text mark (stamp_in text) stamp_said refl (λ r s. stamp-bytes text (tail_of mark r) ∙ ap stamp_said (tail-bytes text mark r s)) rs all
 
-  pub old-name : (form : Form) → bytes_in text (name_in text (old_tail form rs)) ≡ name_said (old_line form (git.lines_of rs))
+  pub old-name : (form : Form) → bytes_in text (name_in text (old_tail form (seen_in rs))) ≡ name_said (old_line form (git.lines_of rs))
   old-name Unified = name-said (codes "--- ")
   old-name Context = name-said (codes "*** ")
   old-name Normal = refl
   old-name Ed = refl
 
-  pub new-name : (form : Form) → bytes_in text (name_in text (new_tail form rs)) ≡ name_said (new_line form (git.lines_of rs))
+  pub new-name : (form : Form) → bytes_in text (name_in text (new_tail form (seen_in rs))) ≡ name_said (new_line form (git.lines_of rs))
   new-name Unified = name-said (codes "+++ ")
   new-name Context = name-said (codes "--- ")
   new-name Normal = refl
   new-name Ed = refl
 
-  pub old-stamp : (form : Form) → stamp_in text (old_tail form rs) ≡ stamp_said (old_line form (git.lines_of rs))
+  pub old-stamp : (form : Form) → stamp_in text (old_tail form (seen_in rs)) ≡ stamp_said (old_line form (git.lines_of rs))
   old-stamp Unified = stamp-said (codes "--- ")
   old-stamp Context = stamp-said (codes "*** ")
   old-stamp Normal = refl
   old-stamp Ed = refl
 
-  pub new-stamp : (form : Form) → stamp_in text (new_tail form rs) ≡ stamp_said (new_line form (git.lines_of rs))
+  pub new-stamp : (form : Form) → stamp_in text (new_tail form (seen_in rs)) ≡ stamp_said (new_line form (git.lines_of rs))
   new-stamp Unified = stamp-said (codes "+++ ")
   new-stamp Context = stamp-said (codes "--- ")
   new-stamp Normal = refl

@@ -1,25 +1,26 @@
 -- The header that a text has is the one that its lines say.
-use Rattle.std.proofs.Common.{◌≡◌, ◌+◌, ◌-◌, ◌≤◌, ℕ, Bool, true, false, cond, not, List, [], ◌∷◌, ◌++◌, length, drop, Option, None, Some, refl, sym, ap, subst, ◌∙◌, arith}
+use Rattle.std.proofs.Common.{◌≡◌, ◌+◌, ◌-◌, ◌≤◌, ℕ, Bool, true, false, cond, not, List, [], ◌∷◌, ◌++◌, length, take, drop, Option, None, Some, refl, sym, ap, subst, ◌∙◌, arith}
 use Rattle.std.specs.Prelude.{codes, option_map}
 use Rattle.std.specs.List.{AllByRecursion}
 use Rattle.std.proofs.lemmas.List.{length-drop, length-take}
 use Rattle.std.proofs.lemmas.Option.{same_Some}
 use Rattle.line_list.specs.Lines.{lines}
 use Rattle.hunk_core.specs.declared.Form.{Form}
-use Rattle.hunk_core.specs.declared.Form.TheVariants.{Unified}
+use Rattle.hunk_core.specs.declared.Form.TheVariants.{Unified, Context, Normal, Ed}
 use Rattle.stamp.specs.declared.Stamp.{Stamp}
 use Rattle.patch_header.specs.GitHeaders.{extended_run, behind_run, git_header, action_of}
 use Rattle.patch_header.specs.GitRows as git
 use Rattle.patch_header.specs.Openings.{stop_at}
-use Rattle.patch_header.specs.Region.{row, rows, last_tail, old_tail, new_tail}
+use Rattle.patch_header.specs.Region.{Row, row, rows, tail_of, last_tail, seen_in, old_tail, new_tail}
 use Rattle.patch_header.specs.Values.{blanks, is_blank, is_white, word_length, span_at, bytes_of, name_in, index_in, word_in, stamp_in}
-use Rattle.patch_header.specs.Steps.{header_with, bare_with, header_at}
+use Rattle.patch_header.specs.Steps.{header_with, bare_with, header_at, seen_for}
 use Rattle.header_record.specs.declared.Action.{Action}
 use Rattle.header_record.specs.declared.Header.{Header}
 use Rattle.patch_header.specs.declared.bare.Pair.{Pair}
 use Rattle.patch_header.specs.declared.openings.Stop.{Stop}
 use Rattle.patch_header.specs.declared.openings.Stop.TheVariants.{Opening, Binary, Bare}
 use Rattle.patch_header.specs.declared.region.Tail.{Tail}
+use Rattle.patch_header.specs.declared.region.Seen.{Seen}
 use Rattle.patch_header.specs.declared.ways.Ways.{Ways}
 use Rattle.patch_header.proofs.GitLemmas.{lines-back}
 use Rattle.patch_header.proofs.Stands.{stop-end}
@@ -28,10 +29,10 @@ use Rattle.patch_header.proofs.ScanLemmas.{run-split}
 use Rattle.file_patch.specs.PlainPatch.{PlainHeader, bytes_in, header_of}
 use Rattle.reading_law.specs.Unnumbered.{unnumbered_header}
 use Rattle.reading_law.specs.Said as said
-use Rattle.reading_law.specs.Said.{behind, last_behind, name_said, word_said, stamp_said, old_line, new_line, from_by, to_by, index_named, led_lines, old_of, new_of, header_behind, bare_header, header_said, old_mode_said, new_mode_said}
-use Rattle.reading_law.proofs.Places.{StandsAt, first-bytes, rows-stand, skip-line}
-use Rattle.reading_law.proofs.HeaderLines.{first-short, quoted-short, span-bytes, tail-bytes, index-said, word-said, old-name, new-name, old-stamp, new-stamp, from-said, to-said, old-mode-said, new-mode-said}
-use Rattle.reading_law.proofs.LedLines.{led-is, led-all}
+use Rattle.reading_law.specs.Said.{behind, last_behind, name_said, word_said, stamp_said, old_line, new_line, from_by, to_by, index_named, led_lines, old_of, new_of, header_behind, bare_header, header_said, is_direct, naming_lines, part_of, git_named, index_behind, old_mode_said, new_mode_said}
+use Rattle.reading_law.proofs.Places.{StandsAt, first-bytes, rows-stand, skip-line, take-inside}
+use Rattle.reading_law.proofs.HeaderLines.{last-alike, index-bytes, first-short, quoted-short, span-bytes, tail-bytes, index-said, word-said, old-name, new-name, old-stamp, new-stamp, from-said, to-said, old-mode-said, new-mode-said}
+use Rattle.reading_law.proofs.LedLines.{led-is, directly-is, led-all}
 use Rattle.reading_law.proofs.Joining.{no-header, run-tail}
 
 abbrev plain : Form → Bool → Option (List ℕ) → Option (List ℕ) → Option (List ℕ) → Option (List ℕ) → Stamp → Stamp → Action → Option (List ℕ) → Option (List ℕ) → Option (List ℕ) → Option (List ℕ) → PlainHeader
@@ -57,29 +58,7 @@ same-parts : (form : Form) (bare : Bool) (a a' b b' c c' d d' : Option (List ℕ
     → plain form bare a b c d s t x f g m n ≡ plain form bare a' b' c' d' s' t' x' f' g' m' n'
 same-parts form bare a a' b b' c c' d d' s s' t t' x x' f f' g g' m m' n n' ea eb ec ed es et ex ef eg em en = cc
 
--- ---- an opening
-
-opening-said : (text : List ℕ) (ways : Ways) (form : Form) (place opening line at : ℕ) (region : List (List ℕ)) → AllByRecursion (StandsAt text) (rows line at region)
-    → unnumbered_header (header_of text (header_with text form place opening (rows line at region) (git.led_by ways form (rows line at region)))) ≡ header_behind form region (led_lines ways form region)
-opening-said text ways form place opening line at region all =
-    let rs = rows line at region in
-    let gs = git.led_by ways form rs in
-    let ls : git.lines_of rs ≡ region = lines-back line at region in
-    let led : git.lines_of gs ≡ led_lines ways form region = led-is ways form line at region in
-    let those : AllByRecursion (StandsAt text) gs = led-all (StandsAt text) ways form rs all in
-    let old : bytes_in text (name_in text (old_tail form rs)) ≡ name_said (old_line form region) = old-name text rs all form ∙ ap (λ l. name_said (old_line form l)) ls in
-    let new : bytes_in text (name_in text (new_tail form rs)) ≡ name_said (new_line form region) = new-name text rs all form ∙ ap (λ l. name_said (new_line form l)) ls in
-    let index : bytes_in text (index_in text (last_tail (codes "Index:") rs)) ≡ index_named (last_behind (codes "Index:") region) = index-said text rs all ∙ ap (λ l. index_named (last_behind (codes "Index:") l)) ls in
-    let prereq : bytes_in text (word_in text (last_tail (codes "Prereq:") rs)) ≡ word_said (last_behind (codes "Prereq:") region) = word-said text rs all (codes "Prereq:") ∙ ap (λ l. word_said (last_behind (codes "Prereq:") l)) ls in
-    let old_at : stamp_in text (old_tail form rs) ≡ stamp_said (old_line form region) = old-stamp text rs all form ∙ ap (λ l. stamp_said (old_line form l)) ls in
-    let new_at : stamp_in text (new_tail form rs) ≡ stamp_said (new_line form region) = new-stamp text rs all form ∙ ap (λ l. stamp_said (new_line form l)) ls in
-    let from : bytes_in text (git.from_in gs) ≡ from_by (action_of (led_lines ways form region)) (led_lines ways form region) = from-said text gs those ∙ ap (λ l. from_by (action_of l) l) led in
-    let to : bytes_in text (git.to_in gs) ≡ to_by (action_of (led_lines ways form region)) (led_lines ways form region) = to-said text gs those ∙ ap (λ l. to_by (action_of l) l) led in
-    let old_mode : bytes_in text (git.whole_in (git.old_mode_in gs)) ≡ old_mode_said (led_lines ways form region) = old-mode-said text gs those ∙ ap old_mode_said led in
-    let new_mode : bytes_in text (git.whole_in (git.new_mode_in gs)) ≡ new_mode_said (led_lines ways form region) = new-mode-said text gs those ∙ ap new_mode_said led in
-    same-parts form false _ _ _ _ _ _ _ _ _ _ _ _ _ _ _ _ _ _ _ _ _ _ old new index prereq old_at new_at (ap action_of led) from to old_mode new_mode
-
--- ---- a bare git header
+-- ---- the names of a git line
 
 word-short : (bytes : List ℕ) → git.quoted_or_word bytes ≤ length bytes
 word-short bytes = quoted-short (word_length bytes) bytes (first-short is_white bytes)
@@ -134,6 +113,86 @@ new-half : (text : List ℕ) (o : Option Tail) → bytes_in text (git.new_half t
 new-half text None = refl
 new-half text (Some t) = new-side text t (git.both_names (bytes_of text t)) refl
 
+-- ---- what counts of the lines in front
+
+-- the new name of a git line
+new-part : (text : List ℕ) (t : Tail) (o : Option Pair) → git.both_names (bytes_of text t) ≡ o → option_map (bytes_of text) (git.name_tail t o) ≡ part_of (bytes_of text t) o
+new-part text t None e = refl
+new-part text t (Some p) e =
+    let width : (t.start + p.start + p.new) - (t.start + p.start) ≡ p.new = omega arith in
+    ap Some (ap (λ m. take m (drop (t.start + p.start) text)) width ∙ take-inside text (bytes_of text t) t.start (t.end - t.start) p.start p.new refl (omega (arith, (names-fit (bytes_of text t) p e).new, tail-width text t)))
+
+pub git-part : (text : List ℕ) (o : Option Tail) → option_map (bytes_of text) (git.git_name text o) ≡ git_named (option_map (bytes_of text) o)
+git-part text None = refl
+git-part text (Some t) = new-part text t (git.both_names (bytes_of text t)) refl
+
+prereq-counted : (text : List ℕ) (direct : Bool) (s : Seen) → (git.seen_by text direct s).prereq ≡ s.prereq
+prereq-counted text true s = refl
+prereq-counted text false s = refl
+
+module _ (text : List ℕ) (rs : List Row) (all : AllByRecursion (StandsAt text) rs) where
+  old-counted : (form : Form) (direct : Bool) → bytes_in text (name_in text (old_tail form (git.seen_by text direct (seen_in rs)))) ≡ name_said (old_line form (naming_lines direct (git.lines_of rs)))
+  old-counted form false = old-name text rs all form
+  old-counted Unified true = refl
+  old-counted Context true = refl
+  old-counted Normal true = refl
+  old-counted Ed true = refl
+
+  new-counted : (form : Form) (direct : Bool) → bytes_in text (name_in text (new_tail form (git.seen_by text direct (seen_in rs)))) ≡ name_said (new_line form (naming_lines direct (git.lines_of rs)))
+  new-counted form false = new-name text rs all form
+  new-counted Unified true = refl
+  new-counted Context true = refl
+  new-counted Normal true = refl
+  new-counted Ed true = refl
+
+  old-at : (form : Form) (direct : Bool) → stamp_in text (old_tail form (git.seen_by text direct (seen_in rs))) ≡ stamp_said (old_line form (naming_lines direct (git.lines_of rs)))
+  old-at form false = old-stamp text rs all form
+  old-at Unified true = refl
+  old-at Context true = refl
+  old-at Normal true = refl
+  old-at Ed true = refl
+
+  new-at : (form : Form) (direct : Bool) → stamp_in text (new_tail form (git.seen_by text direct (seen_in rs))) ≡ stamp_said (new_line form (naming_lines direct (git.lines_of rs)))
+  new-at form false = new-stamp text rs all form
+  new-at Unified true = refl
+  new-at Context true = refl
+  new-at Normal true = refl
+  new-at Ed true = refl
+
+  index-counted : (direct : Bool) → bytes_in text (index_in text (git.seen_by text direct (seen_in rs)).index) ≡ index_named (index_behind direct (git.lines_of rs))
+  index-counted false = index-said text rs all
+  index-counted true =
+      last-alike text (codes "diff --git ") (λ o. bytes_in text (index_in text (git.git_name text o))) (λ o. index_named (git_named o)) refl
+      (λ r s. index-bytes text (git.git_name text (tail_of (codes "diff --git ") r)) ∙ ap index_named (git-part text (tail_of (codes "diff --git ") r)) ∙ ap (λ o. index_named (git_named o)) (tail-bytes text (codes "diff --git ") r s)) rs all
+
+-- ---- an opening
+
+opening-said : (text : List ℕ) (ways : Ways) (form : Form) (place opening line at : ℕ) (region : List (List ℕ)) → AllByRecursion (StandsAt text) (rows line at region)
+    → unnumbered_header (header_of text (header_with text form place opening (seen_for ways form text (rows line at region)) (git.led_by ways form (rows line at region)))) ≡ header_behind form region (is_direct ways form region) (led_lines ways form region)
+opening-said text ways form place opening line at region all =
+    let rs = rows line at region in
+    let d' = git.led_directly ways form rs in
+    let d = is_direct ways form region in
+    let same : d' ≡ d = directly-is ways form line at region in
+    let seen = seen_for ways form text rs in
+    let gs = git.led_by ways form rs in
+    let ls : git.lines_of rs ≡ region = lines-back line at region in
+    let led : git.lines_of gs ≡ led_lines ways form region = led-is ways form line at region in
+    let those : AllByRecursion (StandsAt text) gs = led-all (StandsAt text) ways form rs all in
+    let old : bytes_in text (name_in text (old_tail form seen)) ≡ name_said (old_line form (naming_lines d region)) = old-counted text rs all form d' ∙ ap (λ l. name_said (old_line form (naming_lines d' l))) ls ∙ ap (λ v. name_said (old_line form (naming_lines v region))) same in
+    let new : bytes_in text (name_in text (new_tail form seen)) ≡ name_said (new_line form (naming_lines d region)) = new-counted text rs all form d' ∙ ap (λ l. name_said (new_line form (naming_lines d' l))) ls ∙ ap (λ v. name_said (new_line form (naming_lines v region))) same in
+    let index : bytes_in text (index_in text seen.index) ≡ index_named (index_behind d region) = index-counted text rs all d' ∙ ap (λ l. index_named (index_behind d' l)) ls ∙ ap (λ v. index_named (index_behind v region)) same in
+    let prereq : bytes_in text (word_in text seen.prereq) ≡ word_said (last_behind (codes "Prereq:") region) = ap (λ t. bytes_in text (word_in text t)) (prereq-counted text d' (seen_in rs)) ∙ word-said text rs all (codes "Prereq:") ∙ ap (λ l. word_said (last_behind (codes "Prereq:") l)) ls in
+    let old_at : stamp_in text (old_tail form seen) ≡ stamp_said (old_line form (naming_lines d region)) = old-at text rs all form d' ∙ ap (λ l. stamp_said (old_line form (naming_lines d' l))) ls ∙ ap (λ v. stamp_said (old_line form (naming_lines v region))) same in
+    let new_at : stamp_in text (new_tail form seen) ≡ stamp_said (new_line form (naming_lines d region)) = new-at text rs all form d' ∙ ap (λ l. stamp_said (new_line form (naming_lines d' l))) ls ∙ ap (λ v. stamp_said (new_line form (naming_lines v region))) same in
+    let from : bytes_in text (git.from_in gs) ≡ from_by (action_of (led_lines ways form region)) (led_lines ways form region) = from-said text gs those ∙ ap (λ l. from_by (action_of l) l) led in
+    let to : bytes_in text (git.to_in gs) ≡ to_by (action_of (led_lines ways form region)) (led_lines ways form region) = to-said text gs those ∙ ap (λ l. to_by (action_of l) l) led in
+    let old_mode : bytes_in text (git.whole_in (git.old_mode_in gs)) ≡ old_mode_said (led_lines ways form region) = old-mode-said text gs those ∙ ap old_mode_said led in
+    let new_mode : bytes_in text (git.whole_in (git.new_mode_in gs)) ≡ new_mode_said (led_lines ways form region) = new-mode-said text gs those ∙ ap new_mode_said led in
+    same-parts form false _ _ _ _ _ _ _ _ _ _ _ _ _ _ _ _ _ _ _ _ _ _ old new index prereq old_at new_at (ap action_of led) from to old_mode new_mode
+
+-- ---- a bare git header
+
 -- the rest of a git line
 git-bytes : (text : List ℕ) (number place : ℕ) (line : List ℕ) (more : List (List ℕ)) → lines (drop place text) ≡ line ∷ more → option_map (bytes_of text) (git.git_rest number place (line ∷ more)) ≡ behind (codes "diff --git ") line
 git-bytes text number place line more e = tail-bytes text (codes "diff --git ") (row number place line) (record { bytes = first-bytes text place line more e })
@@ -173,7 +232,7 @@ pub said-alone : (ways : Ways) (text : List ℕ) (at line place number : ℕ) (r
     → (stop ≡ Bare → body ≡ git_header (body ++ others)) → stop_at ways (body ++ others) ≡ Some stop → header_at ways text place number (rows line at region) stop ≡ Some h → header_said ways region body stop ≡ Some (unnumbered_header (header_of text h))
 said-alone ways text at line place number region body rest others (Opening form) h e b bare stands says =
     let all : AllByRecursion (StandsAt text) (rows line at region) = rows-stand text line at region rest e in
-    let is : header_with text form place number (rows line at region) (git.led_by ways form (rows line at region)) ≡ h = same_Some _ h says in
+    let is : header_with text form place number (seen_for ways form text (rows line at region)) (git.led_by ways form (rows line at region)) ≡ h = same_Some _ h says in
     ap Some (sym (opening-said text ways form place number line at region all) ∙ ap (λ x. unnumbered_header (header_of text x)) is)
 said-alone ways text at line place number region [] rest others Bare h e b bare stands says = absurd (let none : stop_at ways others ≡ None = ap (stop_at ways) (no-header others (bare refl)) ∙ stop-end ways in cc)
 said-alone ways text at line place number region (git_line ∷ extended) rest others Bare h e b bare stands says =

@@ -18,7 +18,7 @@ use Rattle.ed_form.specs.Commands as ed_commands
 use Rattle.ed_form.specs.Grammar as ed
 use Rattle.ed_form.specs.Scripts.{begins_substitution}
 use Rattle.patch_header.specs.Content.{is_dot, has_dot}
-use Rattle.patch_header.specs.GitHeaders.{is_git_line, is_extended, extended_run, behind_run, git_header, action_of, is_plain, has_names, begins_bare}
+use Rattle.patch_header.specs.GitHeaders.{is_git_line, is_extended, extended_run, behind_run, git_header, action_of, is_plain, has_names, leads, begins_bare}
 use Rattle.patch_header.specs.Openings.{admits, begins, begins_binary, asks_dot, tells_binary, stops_bare, stop_at}
 use Rattle.patch_header.specs.Steps.{region_of}
 use Rattle.patch_header.specs.declared.openings.Stop.{Stop}
@@ -152,19 +152,21 @@ run-joined (x ∷ rest) others e run behind = by (is_extended x) refl (λ k. run
 record ShowsGit (others : List (List ℕ)) : Type 0 where
   run : extended_run others ≡ []
   behind : behind_run others ≡ others
-  names : has_names others ≡ false
+  leads_none : leads others ≡ false
   text : begins_binary others ≡ false
 
-git-shows : (others : List (List ℕ)) → begin_with_git others ≡ true → ShowsGit others
-git-shows [] h = record { run = run-none; behind = behind-none; names = refl; text = refl }
-git-shows (line ∷ more) h = let s = solid-shows line more (git-solid line h) in record { run = s.run; behind = s.behind; names = s.names; text = s.text }
+git-shows : (others : List (List ℕ)) → begin_with_git others ≡ true → unified_hunks.begins_hunk others ≡ false → ShowsGit others
+git-shows [] h hunk = record { run = run-none; behind = behind-none; leads_none = refl; text = refl }
+git-shows (line ∷ more) h hunk =
+    let s = solid-shows line more (git-solid line h) in
+    record { run = s.run; behind = s.behind; leads_none = ap (λ v. v || has_names (line ∷ more)) hunk ∙ s.names; text = s.text }
 
-bare-by : (line : List ℕ) (rest others : List (List ℕ)) → (extended_run (rest ++ others) ≡ extended_run (rest ++ [])) → has_names (behind_run (rest ++ others)) ≡ false → begins_bare (line ∷ (rest ++ [])) ≡ true → begins_bare (line ∷ (rest ++ others)) ≡ true
+bare-by : (line : List ℕ) (rest others : List (List ℕ)) → (extended_run (rest ++ others) ≡ extended_run (rest ++ [])) → leads (behind_run (rest ++ others)) ≡ false → begins_bare (line ∷ (rest ++ [])) ≡ true → begins_bare (line ∷ (rest ++ others)) ≡ true
 unfolding begins_bare
 bare-by line rest others run names h =
     let git : is_git_line line ≡ true = and_left _ _ h in
-    let action : not (is_plain (action_of (extended_run (rest ++ [])))) ≡ true = and_right (not (has_names (behind_run (rest ++ [])))) _ (and_right (is_git_line line) _ h) in
-    ap (λ v. v && (not (has_names (behind_run (rest ++ others))) && not (is_plain (action_of (extended_run (rest ++ others)))))) git
+    let action : not (is_plain (action_of (extended_run (rest ++ [])))) ≡ true = and_right (not (leads (behind_run (rest ++ [])))) _ (and_right (is_git_line line) _ h) in
+    ap (λ v. v && (not (leads (behind_run (rest ++ others))) && not (is_plain (action_of (extended_run (rest ++ others)))))) git
     ∙ ap (λ v. not v && not (is_plain (action_of (extended_run (rest ++ others))))) names
     ∙ ap (λ ls. not (is_plain (action_of ls))) run
     ∙ action
@@ -173,13 +175,13 @@ no-bare : begins_bare [] ≡ true → ⊥
 unfolding begins_bare
 no-bare k = absurd cc
 
-bare-joined : (body others : List (List ℕ)) → body ≡ git_header (body ++ []) → begin_with_git others ≡ true → begins_bare (body ++ []) ≡ true → (begins_bare (body ++ others) ≡ true) × (body ≡ git_header (body ++ others)) × (tells_binary (body ++ others) ≡ false)
-bare-joined [] others e git h = absurd (no-bare h)
-bare-joined (line ∷ rest) others e git h =
-    let s = git-shows others git in
+bare-joined : (body others : List (List ℕ)) → body ≡ git_header (body ++ []) → begin_with_git others ≡ true → unified_hunks.begins_hunk others ≡ false → begins_bare (body ++ []) ≡ true → (begins_bare (body ++ others) ≡ true) × (body ≡ git_header (body ++ others)) × (tells_binary (body ++ others) ≡ false)
+bare-joined [] others e git hunk h = absurd (no-bare h)
+bare-joined (line ∷ rest) others e git hunk h =
+    let s = git-shows others git hunk in
     let alone : rest ≡ extended_run (rest ++ []) = run-tail line rest (extended_run (rest ++ [])) e in
     let more = run-joined rest others alone s.run s.behind in
-    (bare-by line rest others (more.0 ∙ alone) (ap has_names more.1 ∙ s.names) h, ap (λ ls. line ∷ ls) (sym more.0), ap begins_binary more.1 ∙ s.text)
+    (bare-by line rest others (more.0 ∙ alone) (ap leads more.1 ∙ s.leads_none) h, ap (λ ls. line ∷ ls) (sym more.0), ap begins_binary more.1 ∙ s.text)
 
 -- ---- both
 
@@ -188,13 +190,13 @@ module _ (ways : Ways) (body others : List (List ℕ)) (change : PlainChange) (c
   stop-joined (Opening form) s git h = (opening-words ways form (body ++ others)).1 (and-then (admits ways.only form) _ _ (opens-joined ways.only form body others) ((opening-words ways form (body ++ [])).0 h))
   stop-joined Bare s git h =
       let stops : stops_bare ways (body ++ []) ≡ true = (bare-words ways (body ++ [])).0 h in
-      let joined = bare-joined body others s.0 (git refl) (stops-begins ways (body ++ []) stops) in
+      let joined = bare-joined body others s.0 (git refl) clean.unified (stops-begins ways (body ++ []) stops) in
       (bare-words ways (body ++ others)).1 (stops-by ways (body ++ others) (and_left ways.git _ stops) joined.0 joined.2)
   stop-joined Binary s git h = absurd s
 
   spell-joined : (stop : Stop) → Spell stop body [] change → (stop ≡ Bare → begin_with_git others ≡ true) → stop_at ways (body ++ []) ≡ Some stop → Spell stop body others change
   spell-joined (Opening form) s git h = change-joined body others clean form change s
-  spell-joined Bare s git h = ((bare-joined body others s.0 (git refl) (stops-begins ways (body ++ []) ((bare-words ways (body ++ [])).0 h))).1, s.1)
+  spell-joined Bare s git h = ((bare-joined body others s.0 (git refl) clean.unified (stops-begins ways (body ++ []) ((bare-words ways (body ++ [])).0 h))).1, s.1)
   spell-joined Binary s git h = absurd s
 
 -- ---- a file patch

@@ -1,14 +1,15 @@
 -- The rows of a git header that leads an opening are those of its lines, and stand at their places.
 use Rattle.std.proofs.Common.{◌≡◌, ℕ, Bool, true, false, cond, ◌&&◌, List, [], ◌∷◌, ◌++◌, reverse, Option, None, Some, refl, sym, ap, ◌∙◌}
-use Rattle.std.specs.Prelude.{codes, option_map, unwrap_or}
+use Rattle.std.specs.Prelude.{codes, is_some, option_map, unwrap_or}
 use Rattle.std.specs.List.{AllByRecursion}
+use Rattle.std.specs.Option.{option_or}
 use Rattle.hunk_core.specs.declared.Form.{Form}
 use Rattle.patch_header.specs.GitHeaders.{starts, is_git_line, is_extended}
-use Rattle.patch_header.specs.GitRows.{lines_of, with_row, header_back, old_name_back, new_name_back, led_rows, is_unified, led_by}
+use Rattle.patch_header.specs.GitRows.{lines_of, with_row, header_back, old_name_back, new_name_back, led_rows, ends_with_git, is_unified, led_by, led_directly}
 use Rattle.patch_header.specs.Region.{Row, rows}
 use Rattle.patch_header.specs.declared.ways.Ways.{Ways}
 use Rattle.patch_header.proofs.GitLemmas.{lines-back}
-use Rattle.reading_law.specs.Said.{led_lines}
+use Rattle.reading_law.specs.Said.{is_direct, led_lines}
 use Rattle.reading_law.proofs.HeaderLines.{all-push, all-reverse, lines-push, lines-reverse}
 
 -- ---- the same over lines alone
@@ -66,11 +67,36 @@ or-none : (o : Option (List Row)) → lines_of (unwrap_or o []) ≡ unwrap_or (o
 or-none None = refl
 or-none (Some rs) = refl
 
-led-rows : (rs : List Row) → lines_of (led_rows rs) ≡ unwrap_or (new_lines (reverse (lines_of rs))) []
-led-rows rs = or-none (new_name_back (reverse rs)) ∙ ap (λ o. unwrap_or o []) (new-lines (reverse rs)) ∙ ap (λ ls. unwrap_or (new_lines ls) []) (lines-reverse rs)
+either : (o p : Option (List Row)) → option_map lines_of (option_or o p) ≡ option_or (option_map lines_of o) (option_map lines_of p)
+either None p = refl
+either (Some rs) p = refl
+
+led_back : List (List ℕ) → List (List ℕ)
+led_back back = unwrap_or (option_or (new_lines back) (header_lines back)) []
+
+led-rows : (rs : List Row) → lines_of (led_rows rs) ≡ led_back (reverse (lines_of rs))
+unfolding led_back
+led-rows rs =
+    or-none (option_or (new_name_back (reverse rs)) (header_back (reverse rs)))
+    ∙ ap (λ o. unwrap_or o []) (either (new_name_back (reverse rs)) (header_back (reverse rs)))
+    ∙ ap (λ o. unwrap_or (option_or o (option_map lines_of (header_back (reverse rs)))) []) (new-lines (reverse rs))
+    ∙ ap (λ o. unwrap_or (option_or (new_lines (lines_of (reverse rs))) o) []) (header-lines (reverse rs))
+    ∙ ap led_back (lines-reverse rs)
 
 led-same : (rs qs : List Row) → lines_of rs ≡ lines_of qs → lines_of (led_rows rs) ≡ lines_of (led_rows qs)
-led-same rs qs e = led-rows rs ∙ ap (λ ls. unwrap_or (new_lines (reverse ls)) []) e ∙ sym (led-rows qs)
+led-same rs qs e = led-rows rs ∙ ap (λ ls. led_back (reverse ls)) e ∙ sym (led-rows qs)
+
+there-map : (o : Option (List Row)) → is_some o ≡ is_some (option_map lines_of o)
+there-map None = refl
+there-map (Some rs) = refl
+
+ends-lines : (rs : List Row) → ends_with_git rs ≡ is_some (header_lines (reverse (lines_of rs)))
+ends-lines rs = there-map (header_back (reverse rs)) ∙ ap is_some (header-lines (reverse rs)) ∙ ap (λ ls. is_some (header_lines ls)) (lines-reverse rs)
+
+pub directly-is : (ways : Ways) (form : Form) (number at : ℕ) (ls : List (List ℕ)) → led_directly ways form (rows number at ls) ≡ is_direct ways form ls
+directly-is ways form number at ls =
+    let same : lines_of (rows number at ls) ≡ lines_of (rows 0 0 ls) = lines-back number at ls ∙ sym (lines-back 0 0 ls) in
+    ap (λ v. (ways.git && is_unified form) && v) (ends-lines (rows number at ls) ∙ ap (λ l. is_some (header_lines (reverse l))) same ∙ sym (ends-lines (rows 0 0 ls)))
 
 -- wherever the lines stand
 pub led-is : (ways : Ways) (form : Form) (number at : ℕ) (ls : List (List ℕ)) → lines_of (led_by ways form (rows number at ls)) ≡ led_lines ways form ls
@@ -118,6 +144,10 @@ new-all P (r ∷ back) h = by (starts (codes "+++ ") r.line)
     by true = old-all P back h.1
     by false = tt
 
+all-either : (P : Row → Type 0) (o p : Option (List Row)) → AllOf P o → AllOf P p → AllOf P (option_or o p)
+all-either P None p h k = k
+all-either P (Some rs) p h k = h
+
 all-or : (P : Row → Type 0) (o : Option (List Row)) → AllOf P o → AllByRecursion P (unwrap_or o [])
 all-or P None h = tt
 all-or P (Some rs) h = h
@@ -126,5 +156,7 @@ pub led-all : (P : Row → Type 0) (ways : Ways) (form : Form) (rs : List Row) �
 led-all P ways form rs h = by (ways.git && is_unified form)
   where
     by : (v : Bool) → AllByRecursion P (cond v (led_rows rs) [])
-    by true = all-or P (new_name_back (reverse rs)) (new-all P (reverse rs) (all-reverse P rs h))
+    by true =
+        let back = all-reverse P rs h in
+        all-or P (option_or (new_name_back (reverse rs)) (header_back (reverse rs))) (all-either P (new_name_back (reverse rs)) (header_back (reverse rs)) (new-all P (reverse rs) back) (header-all P (reverse rs) back))
     by false = tt

@@ -12,7 +12,7 @@ use Rattle.normal_form.specs.Commands as normal
 use Rattle.normal_form.specs.Hunks.{begins_marked}
 use Rattle.ed_form.specs.Commands.{is_command}
 use Rattle.patch_header.specs.Content.{is_dot, has_dot}
-use Rattle.patch_header.specs.GitHeaders.{starts, is_git_line, is_extended, extended_run, behind_run, action_of, is_plain, has_new_name, has_names, begins_bare}
+use Rattle.patch_header.specs.GitHeaders.{starts, is_git_line, is_extended, extended_run, behind_run, action_of, is_plain, has_new_name, has_names, leads, begins_bare}
 use Rattle.patch_header.specs.Openings.{admits, asks_dot, opens, begins_binary, is_passed_over, stops_binary, stops_bare, stop_at}
 use Rattle.patch_header.specs.Steps.{AreQuiet}
 use Rattle.patch_header.specs.declared.ways.Ways.{Ways}
@@ -26,7 +26,7 @@ pub record LookAlike (rest other : List (List ℕ)) : Type 0 where
   pub new_name : has_new_name rest ≡ has_new_name other
   pub names : has_names rest ≡ has_names other
   pub run : extended_run rest ≡ extended_run other
-  pub behind : has_names (behind_run rest) ≡ has_names (behind_run other)
+  pub behind : leads (behind_run rest) ≡ leads (behind_run other)
   pub text : begins_binary rest ≡ begins_binary other
   pub told : begins_binary (behind_run rest) ≡ begins_binary (behind_run other)
 
@@ -51,25 +51,28 @@ module _ (rest other : List (List ℕ)) (same : LookAlike rest other) where
   more-names [] = same.names
   more-names (m ∷ more) = ap (λ v. starts (codes "--- ") m && v) (more-new more)
 
+  more-leads : (more : List (List ℕ)) → leads (more ++ rest) ≡ leads (more ++ other)
+  more-leads more = ap (λ v. v || has_names (more ++ rest)) (more-hunk more) ∙ ap (λ v. unified.begins_hunk (more ++ other) || v) (more-names more)
+
   more-run : (more : List (List ℕ)) → extended_run (more ++ rest) ≡ extended_run (more ++ other)
   unfolding extended_run
   more-run [] = same.run
   more-run (m ∷ more) = ap (λ ls. cond (is_extended m) (m ∷ ls) []) (more-run more)
 
-  more-behind : (more : List (List ℕ)) → has_names (behind_run (more ++ rest)) ≡ has_names (behind_run (more ++ other))
+  more-behind : (more : List (List ℕ)) → leads (behind_run (more ++ rest)) ≡ leads (behind_run (more ++ other))
   unfolding behind_run
   more-behind [] = same.behind
   more-behind (m ∷ more) = by (is_extended m) (more-behind more)
     where
-      by : (v : Bool) → has_names (behind_run (more ++ rest)) ≡ has_names (behind_run (more ++ other)) → has_names (cond v (behind_run (more ++ rest)) (m ∷ (more ++ rest))) ≡ has_names (cond v (behind_run (more ++ other)) (m ∷ (more ++ other)))
+      by : (v : Bool) → leads (behind_run (more ++ rest)) ≡ leads (behind_run (more ++ other)) → leads (cond v (behind_run (more ++ rest)) (m ∷ (more ++ rest))) ≡ leads (cond v (behind_run (more ++ other)) (m ∷ (more ++ other)))
       by true e = e
-      by false e = more-names (m ∷ more)
+      by false e = more-leads (m ∷ more)
 
   more-bare : (line : List ℕ) (more : List (List ℕ)) → begins_bare (line ∷ (more ++ rest)) ≡ begins_bare (line ∷ (more ++ other))
   unfolding begins_bare
   more-bare line more =
       ap (λ v. is_git_line line && (not v && not (is_plain (action_of (extended_run (more ++ rest)))))) (more-behind more)
-      ∙ ap (λ ls. is_git_line line && (not (has_names (behind_run (more ++ other))) && not (is_plain (action_of ls)))) (more-run more)
+      ∙ ap (λ ls. is_git_line line && (not (leads (behind_run (more ++ other))) && not (is_plain (action_of ls)))) (more-run more)
 
   more-text : (more : List (List ℕ)) → begins_binary (more ++ rest) ≡ begins_binary (more ++ other)
   more-text [] = same.text

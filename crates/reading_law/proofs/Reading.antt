@@ -10,7 +10,7 @@ use Rattle.patch_header.specs.GitHeaders.{git_header}
 use Rattle.patch_header.specs.GitRows.{led_by}
 use Rattle.patch_header.specs.Openings.{admits, begins, stop_at}
 use Rattle.patch_header.specs.Region.{Row, rows}
-use Rattle.patch_header.specs.Steps.{IsEnd, IsFirstOpening, header_with, bare_with, header_at, next_step}
+use Rattle.patch_header.specs.Steps.{IsEnd, IsFirstOpening, header_with, bare_with, header_at, seen_for, next_step}
 use Rattle.header_record.specs.declared.Header.{Header}
 use Rattle.patch_header.specs.declared.openings.Stop.{Stop}
 use Rattle.patch_header.specs.declared.openings.Stop.TheVariants.{Opening, Binary, Bare}
@@ -39,7 +39,7 @@ Stands stop place h = ((stop ≡ Opening h.form) × (place ≡ h.at) × (h.bare 
 
 pub stands-so : (ways : Ways) (text : List ℕ) (place number : ℕ) (rs : List Row) (stop : Stop) (h : Header) → header_at ways text place number rs stop ≡ Some h → Stands stop place h
 stands-so ways text place number rs (Opening form) h e =
-    let is : header_with text form place number rs (led_by ways form rs) ≡ h = same_Some _ h e in
+    let is : header_with text form place number (seen_for ways form text rs) (led_by ways form rs) ≡ h = same_Some _ h e in
     inl (ap (λ (x : Header). Opening x.form) is, ap (λ (x : Header). x.at) is, sym (ap (λ (x : Header). x.bare) is))
 stands-so ways text place number rs Bare h e =
     let is : bare_with text place number rs ≡ h = same_Some _ h e in

@@ -7,7 +7,7 @@ use Rattle.hunk_core.specs.declared.Form.{Form}
 use Rattle.hunk_core.specs.Reading.{Ahead, Fault}
 use Rattle.patch_header.specs.Openings.{stop_at}
 use Rattle.patch_header.specs.Region.{rows}
-use Rattle.patch_header.specs.Steps.{first_stop, found_or, header_at, header_with, next_step, region_of as region_before, step_behind}
+use Rattle.patch_header.specs.Steps.{first_stop, found_or, header_at, header_with, seen_for, next_step, region_of as region_before, step_behind}
 use Rattle.patch_header.specs.GitRows.{led_by}
 use Rattle.patch_header.specs.declared.openings.Stop.{Stop}
 use Rattle.patch_header.specs.declared.openings.Stop.TheVariants.{Opening, Binary, Bare}
@@ -32,7 +32,7 @@ pub record IsShown (ways : Ways) (text : List ℕ) (h : Header) : Type 0 where
   pub first : List ℕ
   pub ahead : lines (drop at text) ≡ region ++ first ∷ rest
   pub stands : stop_at ways (first ∷ rest) ≡ Some (Opening h.form)
-  pub is : h ≡ header_with text h.form place number (rows line at region) (led_by ways h.form (rows line at region))
+  pub is : h ≡ header_with text h.form place number (seen_for ways h.form text (rows line at region)) (led_by ways h.form (rows line at region))
 
 abbrev pub IsShownIf : Ways → List ℕ → Header → Type 0
 IsShownIf ways text h = h.bare ≡ false → IsShown ways text h
@@ -79,7 +79,7 @@ shown-at ways text at line Bare h is e = λ not_bare. absurd (let same = found-i
 shown-at ways text at line (Opening form) h is e = λ not_bare.
     let region = region_before ways (lines (drop at text)) in
     let place = at + sum_by length region in
-    let same = found-is (header_with text form place (line + length region) (rows line at region) (led_by ways form (rows line at region))) h e in
+    let same = found-is (header_with text form place (line + length region) (seen_for ways form text (rows line at region)) (led_by ways form (rows line at region))) h e in
     let f : form ≡ h.form = ap (λ (x : Header). x.form) same in
     let p = parts ways (lines (drop at text)) (Opening form) is in
     record {
@@ -92,7 +92,7 @@ shown-at ways text at line (Opening form) h is e = λ not_bare.
       first = p.first;
       ahead = p.ahead;
       stands = p.stands ∙ ap (λ (x : Form). Some (Opening x)) f;
-      is = sym same ∙ ap (λ (x : Form). header_with text x place (line + length region) (rows line at region) (led_by ways x (rows line at region))) f;
+      is = sym same ∙ ap (λ (x : Form). header_with text x place (line + length region) (seen_for ways x text (rows line at region)) (led_by ways x (rows line at region))) f;
     }
 
 step-shown : (ways : Ways) (text : List ℕ) (at line : ℕ) (h : Header) → next_step ways text at line ≡ steps.Found h → IsShownIf ways text h

@@ -1,6 +1,6 @@
 -- The lines in which the names of a header stand, as they are copied.
 use Rattle.std.proofs.Common.{◌≡◌, ℕ, zero, suc, ◌+◌, ◌≤◌, Bool, true, false, cond, not, eqb, List, [], ◌∷◌, ◌++◌, length, take, drop, reverse, append_assoc, Option, None, Some, refl, sym, ap, subst, ◌∙◌, arith}
-use Rattle.std.specs.Prelude.{is_some, option_map, nat_lt, unwrap_or}
+use Rattle.std.specs.Prelude.{codes, is_some, option_map, nat_lt, unwrap_or}
 use Rattle.std.specs.List.{AllByRecursion, position, position_or_len, prefix_len}
 use Rattle.std.proofs.Math.Seq.{drop-append_seam, take-append_seam}
 use Rattle.std.proofs.lemmas.Bool.Decides.{nat_tests}
@@ -11,7 +11,7 @@ use Rattle.std.proofs.lemmas.Option.{same_Some}
 use Rattle.line_list.specs.declared.Span.{Span}
 use Rattle.line_list.specs.Lines.{ArePieces, IsLine, lines}
 use Rattle.line_list.proofs.Pieces.{line-first, lines-pieces}
-use Rattle.line_list.proofs.WholeLines.{NoFeed}
+use Rattle.line_list.proofs.WholeLines.{NoFeed, no-feed-take}
 use Rattle.hunk_core.specs.LineTests.{after}
 use Rattle.hunk_core.proofs.TextLemmas.{after-takes}
 use Rattle.unified_form.proofs.Canonical.{closes}
@@ -20,13 +20,16 @@ use Rattle.stamp.specs.declared.Stamp.TheVariants.{Unknown}
 use Rattle.stamp.specs.Reading.{stamp_of}
 use Rattle.stamp.specs.Reading as reading
 use Rattle.patch_header.specs.Content.{content}
-use Rattle.patch_header.specs.Region.{Row, first_some, last_tail, rows, tail_of}
+use Rattle.patch_header.specs.GitRows.{both_names, git_name, seen_by}
+use Rattle.patch_header.specs.Region.{Row, first_some, last_tail, rows, seen_in, tail_of}
 use Rattle.patch_header.specs.Values.{behind_name, blanks, bytes_of, first, index_in, is_blank, bare_length, name_in, name_length, span_at, stamp_in, unblanked}
+use Rattle.patch_header.specs.declared.bare.Pair.{Pair}
 use Rattle.patch_header.specs.declared.region.Tail.{Tail}
 use Rattle.file_patch.specs.PlainPatch.{bytes_in}
 use Rattle.flip_patch.specs.HeaderText.{first_line, named_line, rest_of_line}
-use Rattle.reading_law.specs.Said.{bytes_before, index_named, name_said, stamp_said}
+use Rattle.reading_law.specs.Said.{bytes_before, git_named, index_named, name_said, part_of, stamp_said}
 use Rattle.reading_law.proofs.HeaderLines.{all-reverse, first-short, index-bytes, span-bytes, tail-bytes, name-short}
+use Rattle.reading_law.proofs.Headers.{git-part}
 use Rattle.reading_law.proofs.Places.{StandsAt, rows-stand}
 use Rattle.reading_law.proofs.Lines.{closed, content-closed}
 
@@ -284,3 +287,40 @@ index-shows text m rs all = by (last_tail m rs) refl
         let r = first-in (IsRow text) m (reverse rs) t (all-reverse (IsRow text) rs all) e in
         let b = row-tail text m r.0 t r.1.0 r.1.1 in
         subst (λ t. (o : Option (List ℕ)) × Indexes text (index_in text t) o) (sym e) (Some b.0, record { name = index-bytes text (Some t) ∙ ap (λ x. index_named (Some x)) b.1.bytes; clean = b.1.clean })
+
+-- ---- what counts of the lines in front
+
+pub none-shows : (text : List ℕ) → Shows text None Unknown None
+none-shows text = record { line = λ m. refl; name = refl; stamp = refl; clean = tt }
+
+part-clean : (b : List ℕ) (o : Option Pair) → NoFeed b → CleanIn (part_of b o)
+part-clean b None all = tt
+part-clean b (Some p) all = no-feed-take p.new (drop p.start b) (clean-drop p.start b all)
+
+module _ (text : List ℕ) (rs : List Row) (all : AreRows text rs) where
+  pub minus-shows : (direct : Bool) → (o : Option (List ℕ)) × Shows text (name_in text (seen_by text direct (seen_in rs)).minus) (stamp_in text (seen_by text direct (seen_in rs)).minus) o
+  minus-shows true = (None, none-shows text)
+  minus-shows false = name-shows text (codes "--- ") rs all
+
+  pub plus-shows : (direct : Bool) → (o : Option (List ℕ)) × Shows text (name_in text (seen_by text direct (seen_in rs)).plus) (stamp_in text (seen_by text direct (seen_in rs)).plus) o
+  plus-shows true = (None, none-shows text)
+  plus-shows false = name-shows text (codes "+++ ") rs all
+
+  pub stars-shows : (direct : Bool) → (o : Option (List ℕ)) × Shows text (name_in text (seen_by text direct (seen_in rs)).stars) (stamp_in text (seen_by text direct (seen_in rs)).stars) o
+  stars-shows true = (None, none-shows text)
+  stars-shows false = name-shows text (codes "*** ") rs all
+
+  git-shows : (o : Option (List ℕ)) × Indexes text (index_in text (git_name text (last_tail (codes "diff --git ") rs))) o
+  git-shows = by (last_tail (codes "diff --git ") rs) refl
+    where
+      by : (t : Option Tail) → last_tail (codes "diff --git ") rs ≡ t → (o : Option (List ℕ)) × Indexes text (index_in text (git_name text (last_tail (codes "diff --git ") rs))) o
+      by None e = subst (λ t. (o : Option (List ℕ)) × Indexes text (index_in text (git_name text t)) o) (sym e) (None, record { name = refl; clean = tt })
+      by (Some t) e =
+          let r = first-in (IsRow text) (codes "diff --git ") (reverse rs) t (all-reverse (IsRow text) rs all) e in
+          let b = row-tail text (codes "diff --git ") r.0 t r.1.0 r.1.1 in
+          subst (λ t. (o : Option (List ℕ)) × Indexes text (index_in text (git_name text t)) o) (sym e)
+          (part_of b.0 (both_names b.0), record { name = index-bytes text (git_name text (Some t)) ∙ ap index_named (git-part text (Some t) ∙ ap (λ x. git_named (Some x)) b.1.bytes); clean = part-clean b.0 (both_names b.0) b.1.clean })
+
+  pub index-named-by : (direct : Bool) → (o : Option (List ℕ)) × Indexes text (index_in text (seen_by text direct (seen_in rs)).index) o
+  index-named-by true = git-shows
+  index-named-by false = index-shows text (codes "Index:") rs all

@@ -10,7 +10,7 @@ use Rattle.unified_form.specs.Hunks as unified
 use Rattle.context_form.specs.Openings as context
 use Rattle.normal_form.specs.Hunks.{begins_marked}
 use Rattle.patch_header.specs.Content.{content, is_binary}
-use Rattle.patch_header.specs.GitHeaders.{starts, is_git_line, is_mode_line, is_name_line, is_index_line, is_extended, extended_run, behind_run, has_new_name, has_names}
+use Rattle.patch_header.specs.GitHeaders.{starts, is_git_line, is_mode_line, is_name_line, is_index_line, is_extended, extended_run, behind_run, has_new_name, has_names, leads}
 use Rattle.patch_header.specs.Openings.{begins, begins_binary}
 use Rattle.patch_header.proofs.Fronts.{front, and_left, and_right, after-front, unified-front, context-front, range-front, normal-range, ed-range, content-front, binary-front}
 use Rattle.patch_header.proofs.GitWords.{starts-words}
@@ -154,7 +154,7 @@ solid-alike rest other marked ranged hunk s t = record {
   new_name = s.new_name ∙ sym t.new_name;
   names = s.names ∙ sym t.names;
   run = s.run ∙ sym t.run;
-  behind = ap has_names s.behind ∙ s.names ∙ sym t.names ∙ sym (ap has_names t.behind);
+  behind = ap leads s.behind ∙ ap (λ v. v || has_names rest) hunk ∙ ap (λ v. unified.begins_hunk other || v) (s.names ∙ sym t.names) ∙ sym (ap leads t.behind);
   text = s.text ∙ sym t.text;
   told = ap begins_binary s.behind ∙ s.text ∙ sym t.text ∙ sym (ap begins_binary t.behind);
 }

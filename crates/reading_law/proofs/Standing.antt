@@ -12,7 +12,7 @@ use Rattle.patch_header.specs.GitHeaders.{behind_run, git_header}
 use Rattle.patch_header.specs.GitRows.{led_by}
 use Rattle.patch_header.specs.Openings.{stop_at}
 use Rattle.patch_header.specs.Region.{Row, rows}
-use Rattle.patch_header.specs.Steps.{AreQuiet, IsRegion, IsEnd, header_with, bare_with, header_at}
+use Rattle.patch_header.specs.Steps.{AreQuiet, IsRegion, IsEnd, header_with, bare_with, header_at, seen_for}
 use Rattle.header_record.specs.declared.Header.{Header}
 use Rattle.patch_header.specs.declared.openings.Stop.{Stop}
 use Rattle.patch_header.specs.declared.openings.Stop.TheVariants.{Opening, Binary, Bare}
@@ -64,8 +64,8 @@ record Behind (text : List ℕ) (place end : ℕ) (stop : Stop) (change : PlainC
 
 behind-stop : (ways : Ways) (text : List ℕ) (place number : ℕ) (rs : List Row) (stop : Stop) (h : Header) (change : PlainChange) (end next : ℕ) → header_at ways text place number rs stop ≡ Some h → GoesUpTo text h change end next → Behind text place end stop change
 behind-stop ways text place number rs (Opening form) h change end next e g =
-    let is : header_with text form place number rs (led_by ways form rs) ≡ h = same_Some _ h e in
-    let goes : GoesUpTo text (header_with text form place number rs (led_by ways form rs)) change end next = subst (λ (x : Header). GoesUpTo text x change end next) (sym is) g in
+    let is : header_with text form place number (seen_for ways form text rs) (led_by ways form rs) ≡ h = same_Some _ h e in
+    let goes : GoesUpTo text (header_with text form place number (seen_for ways form text rs) (led_by ways form rs)) change end next = subst (λ (x : Header). GoesUpTo text x change end next) (sym is) g in
     let p = placed form number (lines (drop place text)) change next (lines (drop end text)) (goes.spelled refl) in
     record { body = p.own; ahead = p.parts; spelled = p.anywhere 0 (length p.own) (omega arith) }
 behind-stop ways text place number rs Bare h change end next e g =
@@ -143,7 +143,7 @@ opened ways text place number end next rs (Opening form) body others change ahea
     let there : IsPiece form number (lines (drop place text)) change next (lines (drop end text)) =
     subst (λ (ls : List (List ℕ)). IsPiece form number ls change next (lines (drop end text))) (sym (ahead ∙ p.parts)) (subst (λ (ls : List (List ℕ)). IsPiece form number (p.own ++ others) change next ls) (sym left) here) in
     record {
-      header = header_with text form place number rs (led_by ways form rs);
+      header = header_with text form place number (seen_for ways form text rs) (led_by ways form rs);
       says = refl;
       goes = record { spelled = λ e. there; bare = λ e. absurd cc };
     }

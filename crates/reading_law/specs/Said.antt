@@ -1,5 +1,5 @@
 -- What a header says, by its lines alone, wherever they stand (POSIX `patch`, "Filename Determination"; git-diff(1), "Generating patch text with -p").
-use Rattle.std.specs.Prelude.{ℕ, ◌+◌, ◌==◌, true, false, List, [], ◌∷◌, length, reverse, take, drop, Option, None, Some, codes, if◌then◌else◌}
+use Rattle.std.specs.Prelude.{ℕ, ◌+◌, ◌==◌, Bool, true, false, List, [], ◌∷◌, length, reverse, take, drop, Option, None, Some, codes, if◌then◌else◌}
 use Rattle.hunk_core.specs.declared.Form.{Form}
 use Rattle.hunk_core.specs.declared.Form.TheVariants.{Unified, Context, Normal, Ed}
 use Rattle.hunk_core.specs.LineTests.{after}
@@ -8,7 +8,7 @@ use Rattle.stamp.specs.declared.Stamp.{Stamp}
 use Rattle.stamp.specs.declared.Stamp.TheVariants.{Unknown}
 use Rattle.patch_header.specs.Content.{content}
 use Rattle.patch_header.specs.GitHeaders.{action_of}
-use Rattle.patch_header.specs.GitRows.{lines_of, led_by, both_names}
+use Rattle.patch_header.specs.GitRows.{lines_of, led_by, led_directly, both_names}
 use Rattle.patch_header.specs.Region.{rows, first_some, later}
 use Rattle.patch_header.specs.Values.{unblanked, name_length, index_length, word_length, behind_name}
 use Rattle.header_record.specs.declared.Action.{Action}
@@ -99,6 +99,14 @@ new_mode_said ls = whole_said (first_some new_mode_behind (reverse ls))
 abbrev pub led_lines : Ways → Form → List (List ℕ) → List (List ℕ)
 led_lines ways form ls = lines_of (led_by ways form (rows 0 0 ls))
 
+-- a git header stands directly in front of an opening of a form behind these lines
+abbrev pub is_direct : Ways → Form → List (List ℕ) → Bool
+is_direct ways form ls = led_directly ways form (rows 0 0 ls)
+
+-- no line names the file then but the git line
+abbrev pub naming_lines : Bool → List (List ℕ) → List (List ℕ)
+naming_lines direct ls = if direct then [] else ls
+
 -- the names of what stands in a git line
 abbrev pub old_of : List ℕ → Option Pair → Option (List ℕ)
 old_of bytes None = None
@@ -116,18 +124,30 @@ abbrev pub new_half : Option (List ℕ) → Option (List ℕ)
 new_half None = None
 new_half (Some bytes) = new_of bytes (both_names bytes)
 
--- the header of an opening behind these lines, with the extended lines that lead it; line numbers set aside
-abbrev pub header_behind : Form → List (List ℕ) → List (List ℕ) → PlainHeader
-header_behind form ls led = record {
+-- what the last git line names, or else the last `Index:` line
+abbrev pub part_of : List ℕ → Option Pair → Option (List ℕ)
+part_of bytes None = None
+part_of bytes (Some p) = Some (take p.new (drop p.start bytes))
+
+abbrev pub git_named : Option (List ℕ) → Option (List ℕ)
+git_named None = None
+git_named (Some bytes) = part_of bytes (both_names bytes)
+
+abbrev pub index_behind : Bool → List (List ℕ) → Option (List ℕ)
+index_behind direct ls = if direct then git_named (last_behind (codes "diff --git ") ls) else last_behind (codes "Index:") ls
+
+-- the header of an opening behind these lines, with the extended lines that lead it, directly or not; line numbers set aside
+abbrev pub header_behind : Form → List (List ℕ) → Bool → List (List ℕ) → PlainHeader
+header_behind form ls direct led = record {
   form = form;
   opening = 0;
   names_line = 0;
-  old_name = name_said (old_line form ls);
-  new_name = name_said (new_line form ls);
-  index = index_named (last_behind (codes "Index:") ls);
+  old_name = name_said (old_line form (naming_lines direct ls));
+  new_name = name_said (new_line form (naming_lines direct ls));
+  index = index_named (index_behind direct ls);
   prereq = word_said (last_behind (codes "Prereq:") ls);
-  old_stamp = stamp_said (old_line form ls);
-  new_stamp = stamp_said (new_line form ls);
+  old_stamp = stamp_said (old_line form (naming_lines direct ls));
+  new_stamp = stamp_said (new_line form (naming_lines direct ls));
   action = action_of led;
   bare = false;
   from = from_by (action_of led) led;
@@ -162,6 +182,6 @@ bare_said ls (git ∷ extended) = Some (bare_header ls git extended)
 
 -- the header of what stands behind these lines; of a bare git header these are its own ones; a binary line has none
 abbrev pub header_said : Ways → List (List ℕ) → List (List ℕ) → Stop → Option PlainHeader
-header_said ways ls own (Opening form) = Some (header_behind form ls (led_lines ways form ls))
+header_said ways ls own (Opening form) = Some (header_behind form ls (is_direct ways form ls) (led_lines ways form ls))
 header_said ways ls own Bare = bare_said ls own
 header_said ways ls own Binary = None

@@ -54,6 +54,12 @@ const ROWS: &[&str] = &[
     "git=diff --git a/f b/f\nrename from a\nrename to b\ndeleted file mode 100644\nnew file mode 100644\n=Unified 1 1; [a/f] [b/f] [] []; Unknown Unknown; New true [] []; [100644] [100644]",
     // The last line that tells a mode counts, in front of hunks too.
     "git=diff --git a/f b/f\nold mode 100755\nnew mode \nnew file mode 120000\nold mode 100644\nnew mode 100711\n--- a/f\n+++ b/f\n@@ -1 +1 @@\n-a\n+b\n=Unified 9 7; [a/f] [b/f] [] []; Unknown Unknown; New false [] []; [100644] [100711]",
+    // A git header directly in front of hunks names the file, and no line in front of it does.
+    "git=Index: x\n--- x\n+++ x\ndiff --git a/f b/f\nold mode 100644\nnew mode 100755\n@@ -1 +1 @@\n-a\n+b\n=Unified 7 7; [] [] [b/f] []; Unknown Unknown; Plain false [] []; [100644] [100755]",
+    "git=diff --git a/my f b/my f\nindex 1..2 100644\n@@ -1 +1 @@\n-a\n+b\n=Unified 3 3; [] [] [b/my f] []; Unknown Unknown; Plain false [] []",
+    "-=--- x\ndiff --git a/f b/f\nindex 1..2 100644\n@@ -1 +1 @@\n-a\n+b\n=Unified 4 1; [x] [] [] []; Unknown Unknown; Plain false [] []",
+    "git=diff --git a/f b/f\nnew file mode 100644\n@@ -0,0 +1 @@\n+a\n=Unified 3 3; [] [] [b/f] []; Unknown Unknown; New false [] []; [] [100644]",
+    "git=diff --git a/x b/y\nsimilarity index 90%\nrename from x\nrename to y\n@@ -1 +1 @@\n-a\n+b\n=Unified 5 5; [] [] [] []; Unknown Unknown; Rename false [x] [y]",
     // Without a hunk directly behind them the lines of both names lead nothing.
     "git=diff --git a/f b/f\nnew mode 100755\n--- a/f\n+++ b/f\n\n@@ -1 +1 @@\n=Unified 6 3; [a/f] [b/f] [] []; Unknown Unknown; Plain false [] []",
     // Modes alone are ordinary text.

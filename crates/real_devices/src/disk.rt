@@ -246,6 +246,11 @@ impl<'r, R: Files<File = File>> Tree for Disk<'r, R> {
         self.faults.answer(path.text, done)
     }
 
+    fn is_barred(&mut self, name: &Name, link: bool) -> Result<bool, Failed> {
+        let done = self.files.is_barred(Path::of(name), link);
+        self.faults.answer(name.text(), done)
+    }
+
     fn read_at(&mut self, name: &Name, at: u64, buf: &mut [u8]) -> Result<usize, Failed> {
         let path = Path::of(name);
         let done = self.files.read_at(path, at, buf);
@@ -270,6 +275,11 @@ impl<'r, R: Files<File = File>> Tree for Disk<'r, R> {
 
     fn set_executable(&mut self, temp: &Name, executable: bool) -> Result<(), Failed> {
         let done = self.files.set_executable(Path::of(temp), executable);
+        self.faults.answer(temp.text(), done)
+    }
+
+    fn set_link(&mut self, temp: &Name) -> Result<(), Failed> {
+        let done = self.files.set_link(Path::of(temp));
         self.faults.answer(temp.text(), done)
     }
 

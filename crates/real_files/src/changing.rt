@@ -94,6 +94,11 @@ impl<'r, R: Files<File = File>> OpenFiles<'r, R> {
         self.temporaries.set_executable(temp.text, executable)
     }
 
+    /// Keeps that it becomes a link, once it is put at a name.
+    pub fn set_link(&mut self, temp: Path<'_>) -> io::Result<()> {
+        self.temporaries.set_link(temp.text)
+    }
+
     /// Writes what was gathered, gives the file its rights, and syncs it. Where that fails, the file is taken away.
     pub fn seal(&mut self, temp: Path<'_>) -> io::Result<()> {
         let done = self.sealed(temp);

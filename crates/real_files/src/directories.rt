@@ -43,6 +43,8 @@ pub struct Directories {
     pub(crate) second: Text,
     /// Whether names are reached through open directories; it is tried at the first one.
     is_through: Option<bool>,
+    /// The last way ended at something that is no directory.
+    pub(crate) is_cut_off: bool,
     /// A directory that stays open while another one is looked for.
     pub(crate) staying: Option<usize>,
     /// The first name that was taken already when a temporary was to be made.
@@ -63,6 +65,7 @@ impl Directories {
             path,
             second,
             is_through: None,
+            is_cut_off: false,
             staying: None,
             taken,
             syncs,
@@ -81,6 +84,7 @@ impl Directories {
         if name.text.len() >= LONGEST_PATH {
             return Err(too_long());
         }
+        self.is_cut_off = false;
         let mut spot = self.nearest(name);
         let walked = spot.walked;
         for (slash, _) in name.behind(walked).match_indices('/') {
@@ -163,6 +167,7 @@ impl Directories {
         if seen.is_directory {
             self.enter(rt, name, spot, slash, seen)
         } else {
+            self.is_cut_off = seen.is_there;
             Ok(None)
         }
     }

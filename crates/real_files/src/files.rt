@@ -176,6 +176,20 @@ impl<'r, R: Files<File = File>> OpenFiles<'r, R> {
         Ok(None)
     }
 
+    /// Whether no file can be put at a name, or no link. What is written through is put nowhere.
+    pub fn is_barred(&mut self, name: Path<'_>, link: bool) -> io::Result<bool> {
+        if self.outlets.has(name.text) {
+            return Ok(false);
+        }
+        if let Some(found) = self.looks.kept(name) {
+            return Ok(found.is_barring(link));
+        }
+        match self.directories.found(self.rt, name) {
+            Ok(found) => Ok(found.is_barring(link)),
+            Err(error) => Err(error),
+        }
+    }
+
     /// What stands at a name: as it was looked at last, unless the run has changed a name since.
     fn look(&mut self, name: Path<'_>) -> io::Result<Found> {
         if let Some(number) = self.temporaries.find(name.text) {

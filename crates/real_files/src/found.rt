@@ -33,6 +33,8 @@ pub struct Found {
     pub is_file: bool,
     pub is_directory: bool,
     pub is_link: bool,
+    /// Nothing is there, since something on the way is no directory.
+    pub is_cut_off: bool,
     pub identity: Identity,
     pub rights: Rights,
     pub length: u64,
@@ -44,6 +46,7 @@ impl Found {
         is_file: false,
         is_directory: false,
         is_link: false,
+        is_cut_off: false,
         identity: Identity::HERE,
         rights: Rights::NONE,
         length: 0,
@@ -60,6 +63,12 @@ impl Found {
         } else {
             "not found"
         }
+    }
+
+    /// Whether no file can be put in its place, or no link.
+    pub fn is_barring(self, link: bool) -> bool {
+        let is_meant = if link { self.is_link } else { self.is_file };
+        self.is_cut_off || (self.is_there && !is_meant)
     }
 
     /// Whether it is a pipe or a device.
@@ -95,6 +104,7 @@ pub fn told(answer: io::Result<Metadata>) -> io::Result<Found> {
             is_file: found.is_file(),
             is_directory: found.is_dir(),
             is_link: found.is_symlink(),
+            is_cut_off: false,
             identity: Identity {
                 device: found.dev(),
                 number: found.ino(),

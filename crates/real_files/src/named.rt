@@ -16,7 +16,10 @@ impl Directories {
         }
         match self.way(rt, name, false) {
             Ok(Some(place)) => or_out_of_reach(self.look(rt, place)),
-            Ok(None) => Ok(Found::NOTHING),
+            Ok(None) => Ok(Found {
+                is_cut_off: self.is_cut_off,
+                ..Found::NOTHING
+            }),
             Err(error) => or_out_of_reach(Err(error)),
         }
     }

@@ -35,6 +35,7 @@ pub struct Temporary {
     due: Grant,
     /// Whether it may be executed, where that was said.
     executable: Option<bool>,
+    is_link: bool,
     stage: Stage,
     /// When it was started.
     started: u64,
@@ -51,6 +52,7 @@ impl Temporary {
             file: None,
             due: Grant::NONE,
             executable: None,
+            is_link: false,
             stage: Stage::Gone,
             started: 0,
         })
@@ -173,6 +175,7 @@ impl Temporaries {
             temporary.file = Some(file);
             temporary.due = due;
             temporary.executable = None;
+            temporary.is_link = false;
             temporary.stage = Stage::Filled;
             temporary.started = self.time;
         }
@@ -231,6 +234,17 @@ impl Temporaries {
         };
         if let Some(temporary) = self.all.get_mut(number) {
             temporary.executable = Some(executable);
+        }
+        Ok(())
+    }
+
+    /// Keeps that the one that goes by this name becomes a link.
+    pub fn set_link(&mut self, name: &str) -> io::Result<()> {
+        let Some(number) = self.find(name) else {
+            return Err(no_file());
+        };
+        if let Some(temporary) = self.all.get_mut(number) {
+            temporary.is_link = true;
         }
         Ok(())
     }

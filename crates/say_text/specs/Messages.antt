@@ -116,6 +116,10 @@ failed_line number at = hunk_text number (codes " FAILED at ") at ++ codes ".\n"
 abbrev pub not_deleting_line : List ℕ → List ℕ
 not_deleting_line name = codes "Not deleting file " ++ (name ++ codes " as content differs from patch\n")
 
+-- what stands at this name, or on the way to it, is no file
+abbrev pub barred_line : List ℕ → List ℕ
+barred_line name = codes "File " ++ (name ++ codes " is not a regular file -- refusing to patch\n")
+
 -- behind a number of 1 stands one hunk
 abbrev pub hunk_word : ℕ → List ℕ
 hunk_word hunks = if hunks == 1 then codes " hunk" else codes " hunks"

@@ -4,7 +4,7 @@ ghost use Rattle.std.specs.Prelude.{◌≡◌, ◌++◌, codes, true, false};
 ghost use Rattle.outside.specs.SinkView.{Writes};
 ghost use Rattle.patch_options.specs.PlainJob.{plain_options};
 ghost use Rattle.say_text.specs.Origins.{plain_origin};
-ghost use Rattle.say_text.specs.Messages.{silenced, doing, behind_name, patching_line, no_file_lines, prereq_line, reaction, reversed_line, would_do, stands_so, unfit_line, not_deleting_line};
+ghost use Rattle.say_text.specs.Messages.{silenced, doing, behind_name, patching_line, no_file_lines, prereq_line, reaction, reversed_line, would_do, stands_so, unfit_line, not_deleting_line, barred_line};
 
 use crate::lines::no_file_lines;
 use crate::origin::Origin;
@@ -228,5 +228,18 @@ pub fn say_not_deleting<O: Sink>(_options: &Options, name: &str, out: &mut O) ->
         b"Not deleting file ",
         name.as_bytes(),
         b" as content differs from patch\n",
+    )
+}
+
+/// Says that a file patch is skipped, since no file can be put at this name. With `-s` too.
+pub fn say_barred<O: Sink>(name: &str, out: &mut O) -> Result<(), Failed>
+    ensures writes { Writes (O.view out.old) (O.view out.new) result (barred_line name.now) }
+    ensures rest { O.same_rest out.old out.new }
+{
+    put_around(
+        out,
+        b"File ",
+        name.as_bytes(),
+        b" is not a regular file -- refusing to patch\n",
     )
 }

@@ -11,7 +11,9 @@ mod pieces;
 mod skipping;
 mod standing;
 
-pub use files::{say_no_file, say_not_deleting, say_patching, say_prereq, say_reversed, say_unfit};
+pub use files::{
+    say_barred, say_no_file, say_not_deleting, say_patching, say_prereq, say_reversed, say_unfit,
+};
 pub use hunks::{say_failed, say_failures, say_ignored, say_placed};
 pub use origin::Origin;
 pub use skipping::{say_image, say_skipped};

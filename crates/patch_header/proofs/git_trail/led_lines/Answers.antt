@@ -7,4 +7,4 @@ pub returns-in-None-clause-lies : goal.returns-in-None-clause-lies
 returns-in-None-clause-lies c = λ text h. c.no_git_lines.ensures.lies text
 
 pub returns-in-Some-clause-lies : goal.returns-in-Some-clause-lies
-returns-in-Some-clause-lies c = λ text h. subst (λ o. IfSome o (SaysWithin text)) c.in-Some.is h.new_name
+returns-in-Some-clause-lies c = λ text h. subst (λ o. IfSome o (SaysWithin text)) c.in-Some.is (c.leading.ensures.lies text h)

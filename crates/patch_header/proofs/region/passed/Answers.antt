@@ -10,6 +10,7 @@ returns-clause-lies c = record {
   stars = later-lies (LiesIn c.args.text.now) c.args.seen.stars _ _ c.later-3.ensures c.requires.lies.stars c.tail_of-3.ensures.lies;
   index = later-lies (LiesIn c.args.text.now) c.args.seen.index _ _ c.later-4.ensures c.requires.lies.index c.tail_of-4.ensures.lies;
   prereq = later-lies (LiesIn c.args.text.now) c.args.seen.prereq _ _ c.later-5.ensures c.requires.lies.prereq c.tail_of-5.ensures.lies;
+  git = later-lies (LiesIn c.args.text.now) c.args.seen.git _ _ c.later-6.ensures c.requires.lies.git c.tail_of-6.ensures.lies;
 }
 
 pub returns-clause-is : goal.returns-clause-is
@@ -22,6 +23,7 @@ returns-clause-is c = λ rs is.
     (c.later-3.ensures ∙ ap (later seen.stars) c.tail_of-3.ensures.is)
     (c.later-4.ensures ∙ ap (later seen.index) c.tail_of-4.ensures.is)
     (c.later-5.ensures ∙ ap (later seen.prereq) c.tail_of-5.ensures.is)
+    (c.later-6.ensures ∙ ap (later seen.git) c.tail_of-6.ensures.is)
     ∙ seen-push seen rs line is
 
 pub tail_of-requires : goal.tail_of-requires
@@ -38,3 +40,6 @@ tail_of-requires-4 c = c.requires.line
 
 pub tail_of-requires-5 : goal.tail_of-requires-5
 tail_of-requires-5 c = c.requires.line
+
+pub tail_of-requires-6 : goal.tail_of-requires-6
+tail_of-requires-6 c = c.requires.line

@@ -1,14 +1,14 @@
 use Rattle.std.proofs.Common.{◌≡◌, ◌+◌, ◌<◌, ◌≤◌, ◌∙◌, Some, true, false, length, drop, sym, ap}
 use Rattle.std.proofs.lemmas.Bool.{false≢true}
 use Rattle.line_list.specs.Lines.{lines}
-use Rattle.patch_header.specs.GitRows.{git_lines_in, led_by}
+use Rattle.patch_header.specs.GitRows.{git_lines_in, led_by, led_directly, seen_by}
 use Rattle.patch_header.specs.Kept.{opening_said}
 use Rattle.patch_header.specs.Openings.{admits, begins, opens, stops_bare, stop_at}
 use Rattle.patch_header.specs.Region.{rows}
-use Rattle.patch_header.specs.Steps.{header_with, bare_with}
+use Rattle.patch_header.specs.Steps.{header_with, bare_with, seen_for}
 use Rattle.patch_header.specs.declared.openings.Stop.TheVariants.{Opening, Bare}
 use Rattle.patch_header.proofs.BareLemmas.{opening-is}
-use Rattle.patch_header.proofs.GitLemmas.{led-is, no-led}
+use Rattle.patch_header.proofs.GitLemmas.{led-is, no-led, directly-is}
 use Rattle.patch_header.proofs.Stands.{and_left, and_right, stop-opens, bare-words, stops-begins}
 use Rattle.patch_header.proofs.StepLemmas.{bare-begins}
 use Rattle.patch_header.proofs.Rows.{stands-within}
@@ -22,16 +22,19 @@ returns-in-Opening-clause-comes c = λ at line h s.
     let form = c.in-Opening.form in
     let rs = rows line at h.region in
     let led = led_by c.args.ways form rs in
+    let seen = seen_for c.args.ways form text rs in
     let said : c.led_by-led.result ≡ git_lines_in led = c.led_by-led.ensures.is ∙ led-is c.args.ways form here.trail rs h.trail in
-    let says : c.header_of.result ≡ header_with text form here.at here.number rs led
-    = c.header_of.ensures.says rs h.seen ∙ ap (opening_said text form here.at here.number rs) said ∙ opening-is text form here.at here.number rs led in
+    let direct : c.leads_directly.result ≡ led_directly c.args.ways form rs = c.leads_directly.ensures ∙ directly-is c.args.ways form here.trail rs h.trail in
+    let counts : c.seen_by-seen.result ≡ seen = c.seen_by-seen.ensures.is ∙ ap (λ d. seen_by text d here.seen) direct ∙ ap (seen_by text (led_directly c.args.ways form rs)) h.seen in
+    let says : c.header_of.result ≡ header_with text form here.at here.number seen led
+    = c.header_of.ensures.says ∙ ap (λ s. opening_said text form here.at here.number s c.led_by-led.result) counts ∙ ap (opening_said text form here.at here.number seen) said ∙ opening-is text form here.at here.number seen led in
     record {
       region = h.region;
       place = here.at;
       stop = Opening form;
       is_region = h.is_region;
       stands = s ∙ ap Some c.in-Opening.is;
-      says = ap Some (sym (says ∙ ap (λ n. header_with text form here.at n rs led) h.number));
+      says = ap Some (sym (says ∙ ap (λ n. header_with text form here.at n seen led) h.number));
     }
 
 pub returns-in-Opening-clause-lies : goal.returns-in-Opening-clause-lies
@@ -121,7 +124,10 @@ pub header_of-requires-clause-short : goal.header_of-requires-clause-short
 header_of-requires-clause-short c = c.requires.short
 
 pub header_of-requires-clause-lies : goal.header_of-requires-clause-lies
-header_of-requires-clause-lies c = c.requires.lawful.lies
+header_of-requires-clause-lies c = c.seen_by-seen.ensures.lies
+
+pub seen_by-seen-requires : goal.seen_by-seen-requires
+seen_by-seen-requires c = c.requires.lawful.lies
 
 pub bare_of-requires-clause-short : goal.bare_of-requires-clause-short
 bare_of-requires-clause-short c = c.requires.short
