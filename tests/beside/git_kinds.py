@@ -198,3 +198,23 @@ def git_apply(random):
     made = case_of(tree, patch, ["-p1", *["-R"] * back], want=want, met="as it was", git_words=[*["-R"] * back, "../change.diff"])
     made.peer = "git"
     return made
+
+
+@kind("git_batch", needs=("git",))
+def batch(random):
+    """Copies of files that the same diff changes, chains of renames, and files made anew at a name that was left, beside `git apply`; and back."""
+    old = changes.tree(random, changes.NAMES, 4, 7)
+    back = random.random() < 0.3
+    ways = [changes.with_chain, changes.with_move] if back else [changes.with_copy, changes.with_copy, changes.with_chain, changes.with_move]
+    new = old
+    for change in [random.choice(ways) for _ in range(random.randint(1, 2))]:
+        new = change(random, new)
+    new = changes.with_edits(random, new)
+    left = sorted(set(old) - set(new))
+    if left and random.random() < 0.4:
+        new = {**new, random.choice(left): changes.file(changes.text(random, 3, 9))}
+    patch = repository.diff(old, new, "-M", "-B", *["-C"] * (not back))
+    tree, want = (new, old) if back else (old, new)
+    made = case_of(tree, patch, ["-p1", *["-R"] * back], want=want, met="as it was", git_words=[*["-R"] * back, "../change.diff"])
+    made.peer = "git"
+    return made

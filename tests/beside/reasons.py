@@ -6,7 +6,7 @@ import os
 MODULES = ("git_reasons", "text_reasons", "word_reasons", "tree_reasons", "plain_reasons")
 
 # keys under which ours may end with 0 over another tree than the one that the patch was made for
-SILENT = ("stamps-of-1970", "git-batch", "newline-names")
+SILENT = ("stamps-of-1970", "newline-names")
 
 
 def pairs_of(name):

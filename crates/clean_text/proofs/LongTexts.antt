@@ -8,11 +8,13 @@ use Rattle.patch_text.specs.Patches.{patches_of}
 use Rattle.patch_set.specs.Asked.{ways_of}
 use Rattle.patch_set.specs.declared.fault.SetFault.TheVariants as faults
 use Rattle.patch_set.specs.Refusals.{is_too_long, refusal, refusal_of}
+use Rattle.git_order.specs.Ordered.{ordered}
+use Rattle.git_order.proofs.Same.{refused-stays}
 use Rattle.clean_text.specs.Bare.{bare_text}
 use Rattle.clean_text.specs.Cleaned.{cleaned, cleaned_in}
 use Rattle.clean_text.specs.Reading.{clean_of}
 
-long-stays : (o : PlainOptions) (text : List ℕ) → is_too_long text ≡ true → clean_of o text ≡ text
+long-stays : (o : PlainOptions) (text : List ℕ) → is_too_long text ≡ true → cleaned (ways_of o) o.keep_returns text ≡ text
 unfolding cleaned
 long-stays o text long =
     ap (λ b. cond (b || not (list_any (λ x. x == 13) text)) text (cleaned_in (ways_of o) o.keep_returns text (completed (bare_text text)))) long
@@ -20,5 +22,5 @@ long-stays o text long =
 -- a text that is too long is refused as such
 pub long_refused : (o : PlainOptions) (text : List ℕ) → is_too_long text ≡ true → refusal o (clean_of o text) ≡ Some faults.TooLong
 long_refused o text long =
-    ap (refusal o) (long-stays o text long)
-    ∙ ap (λ b. cond b (Some faults.TooLong) (refusal_of o text (patches_of (ways_of o) (completed text)))) long
+    let is : refusal o text ≡ Some faults.TooLong = ap (λ b. cond b (Some faults.TooLong) (refusal_of o text (patches_of (ways_of o) (completed text)))) long in
+    ap (refusal o) (ap (ordered o) (long-stays o text long) ∙ refused-stays o text faults.TooLong is) ∙ is

@@ -2,8 +2,9 @@
 use Rattle.std.specs.Prelude.{ℕ, List}
 use Rattle.patch_options.specs.PlainJob.{PlainOptions}
 use Rattle.patch_set.specs.Asked.{ways_of}
+use Rattle.git_order.specs.Ordered.{ordered}
 use Rattle.clean_text.specs.Cleaned.{cleaned}
 
--- without the carriage returns that are no file's
+-- without the carriage returns that are no file's, and with what one `git diff` wrote in the order in which it is carried out
 abbrev pub clean_of : PlainOptions → List ℕ → List ℕ
-clean_of o given = cleaned (ways_of o) o.keep_returns given
+clean_of o given = ordered o (cleaned (ways_of o) o.keep_returns given)

@@ -8,11 +8,13 @@ ghost use Rattle.patch_set.specs.SetView.{IsFresh, IsRead, IsWhole, Meets};
 ghost use Rattle.clean_text.specs.Reading.{clean_of};
 
 use crate::cleaning::clean;
+use git_order::read_in_order;
 use patch_options::Options;
-use patch_set::{PatchSet, SetFault, read_set, ways_of};
+use patch_set::{PatchSet, SetFault, ways_of};
 use std::alloc::Global;
 
-/// Reads a patch text as `read_set` does, once it is without the carriage returns that are no file's.
+/// Reads a patch text as `read_set` does, once it is without the carriage returns that are no file's, and its file patches are in
+/// the order in which they are carried out.
 pub fn read_clean(alloc: Global, given: Vec<u8>, options: &Options) -> Result<PatchSet, SetFault>
     requires { IsLawful (plain_options options.now) }
     ensures read { IfOk result (IsRead (plain_options options.now) (clean_of (plain_options options.now) given.items)) }
@@ -22,5 +24,5 @@ pub fn read_clean(alloc: Global, given: Vec<u8>, options: &Options) -> Result<Pa
     ensures refused { Meets (refusal (plain_options options.now) (clean_of (plain_options options.now) given.items)) result }
 {
     let text = clean(alloc, given, ways_of(options), options.keep_returns)?;
-    read_set(alloc, text, options)
+    read_in_order(alloc, text, options)
 }
