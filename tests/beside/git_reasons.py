@@ -69,33 +69,11 @@ def binary_file(case, _gnu, _ours, differences):
 
 
 @REASONS.of("git-modes")
-def modes_alone(case, gnu, ours, differences):
-    """A text in which nothing but modes changes is refused as garbage."""
-    parts = parts_of(case) if refused(case, ours) and says(ours, b"Only garbage") and gnu.status != [2] else []
-    return differences if parts and all("mode" in part.marks and not part.hunks for part in parts) else []
-
-
-def alone_of(parts):
-    """Returns the file patches by which nothing but a mode changes."""
-    return [part for part in parts if {"old mode", "new mode"} <= part.marks and not part.hunks and not part.marks & {"rename", "copy"}]
-
-
-@REASONS.of("git-modes")
 def modes_of_files(case, _gnu, _ours, differences):
-    """The bits that git's modes don't tell of, and all where nothing but the mode changes."""
-    parts = parts_of(case)
-    names, alone = names_of(parts, "mode"), all_names(alone_of(parts))
+    """The bits that git's modes don't tell of."""
+    names = names_of(parts_of(case), "mode")
     found = [each for each in differences if each.what == "mode" and owner(each.name) in names]
-    return [each for each in found if owner(each.name) in alone or not (each.gnu ^ each.ours) & 0o100]
-
-
-@REASONS.of("git-modes")
-def modes_alone_beside_others(case, gnu, _ours, differences):
-    """A file patch of modes alone that finds no file counts for the status there, and leaves a backup by -b."""
-    names = all_names(part for part in parts_of(case) if "mode" in part.marks and not part.hunks)
-    backups = [each for each in of_files(differences, names) if each.what == "missing" and each.name != owner(each.name)]
-    lost = any(name not in case.tree for name in names) and gnu.status == [1]
-    return backups + (statuses(differences) if lost else [])
+    return [each for each in found if not (each.gnu ^ each.ours) & 0o100]
 
 
 @REASONS.of("git-modes")

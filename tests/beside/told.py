@@ -96,7 +96,7 @@ tell("ed-names", {b"f": b"1\n2\n3\n"}, b"--- f\n+++ f\n1d\n", "-e")
 # What is left otherwise.
 tell("gone-already", {b"f": b""}, GONE, "-p0", "-f", shows=("extra", b"f"))
 tell("stamps-of-1970", {b"f": b"x\n"}, b"*** f\tWed Jan  2 00:00:00 2019\n--- f\tThu Jan  1 01:00:00 1970\n***************\n*** 1 ****\n- x\n--- 0 ----\n")
-tell("git-modes", {b"f": b"a\n"}, git(b"f", b"old mode 100644\nnew mode 100755\n"), "-p1")
+tell("git-modes", {b"f": b"a\n"}, git(b"f", b"old mode 100644\nnew mode 100711\n"), "-p1")
 tell("git-batch", {b"f": b"a\n", b"g": b"b\n"}, git(b"g", b"similarity index 100%\nrename from f\nrename to g\n", b"f") + git(b"f", b"similarity index 100%\nrename from g\nrename to f\n", b"g"), "-p1")
 tell("failed-renames", {b"f": b"x\n"}, git(b"g", b"similarity index 50%\nrename from f\nrename to g\n--- a/f\n+++ b/g\n@@ -1 +1 @@\n-a\n+b\n", b"f"), "-p1", shows=("missing", b"g"))
 tell("rename-over", {b"f": b"a\n", b"g": b"b\n"}, git(b"g", b"similarity index 100%\nrename from f\nrename to g\n", b"f"), "-p1")

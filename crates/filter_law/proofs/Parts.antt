@@ -14,7 +14,7 @@ use Rattle.hunk_core.proofs.PieceLemmas.{piece-lines}
 use Rattle.ed_form.specs.declared.command.Command.{Command}
 use Rattle.ed_form.specs.Commands.{parts_at, is_command}
 use Rattle.patch_header.specs.Content.{has_dot}
-use Rattle.patch_header.specs.GitHeaders.{is_git_line, is_extended, extended_run, behind_run, git_header, action_of, is_plain, leads, begins_bare}
+use Rattle.patch_header.specs.GitHeaders.{is_git_line, is_extended, extended_run, behind_run, git_header, asks_alone, leads, begins_bare}
 use Rattle.patch_header.specs.Openings.{admits, takes_text, asks_dot, begins, begins_binary, opens, stop_at}
 use Rattle.patch_header.specs.Region.{rows}
 use Rattle.patch_header.specs.Steps.{AreQuiet, IsFirstOpening, region_of}
@@ -88,13 +88,13 @@ bare-alone : (line : List ℕ) (more : List (List ℕ)) → begins_bare (line �
 unfolding begins_bare
 bare-alone line more h =
     let git : is_git_line line ≡ true = and_left _ _ h in
-    let action : not (is_plain (action_of (extended_run more))) ≡ true = and_right (not (leads (behind_run more))) _ (and_right (is_git_line line) _ h) in
+    let asks : asks_alone (extended_run more) ≡ true = and_right (not (leads (behind_run more))) _ (and_right (is_git_line line) _ h) in
     let run = run-again more in (
       git,
-      ap (λ v. v && (not (leads (behind_run (extended_run more ++ []))) && not (is_plain (action_of (extended_run (extended_run more ++ [])))))) git
-          ∙ ap (λ ls. not (leads ls) && not (is_plain (action_of (extended_run (extended_run more ++ []))))) run.1
-          ∙ ap (λ ls. not (is_plain (action_of ls))) run.0
-          ∙ action,
+      ap (λ v. v && (not (leads (behind_run (extended_run more ++ []))) && asks_alone (extended_run (extended_run more ++ [])))) git
+          ∙ ap (λ ls. not (leads ls) && asks_alone (extended_run (extended_run more ++ []))) run.1
+          ∙ ap asks_alone run.0
+          ∙ asks,
     )
 
 bare-again : (ways : Ways) (rest : List (List ℕ)) → stop_at ways rest ≡ Some Bare → LookAlike rest (git_header rest ++ []) × (stop_at ways (git_header rest ++ []) ≡ Some Bare) × (git_header rest ≡ git_header (git_header rest ++ []))

@@ -1,14 +1,14 @@
 -- What a search keeps of git headers is what their lines say.
-use Rattle.std.proofs.Common.{◌≡◌, ℕ, ◌+◌, Bool, true, false, cond, ◌&&◌, ◌||◌, List, [], ◌∷◌, ◌++◌, length, reverse, Option, None, Some, refl, ap, ◌∙◌}
+use Rattle.std.proofs.Common.{◌≡◌, ℕ, ◌+◌, Bool, true, false, cond, ◌&&◌, ◌||◌, not, List, [], ◌∷◌, ◌++◌, length, reverse, Option, None, Some, refl, ap, ◌∙◌}
 use Rattle.std.specs.Prelude.{is_some, unwrap_or, codes}
 use Rattle.std.specs.Option.{option_or}
 use Rattle.std.proofs.lemmas.List.{reverse-append}
 use Rattle.hunk_core.specs.declared.Form.{Form}
 use Rattle.patch_header.specs.Content.{content}
-use Rattle.patch_header.specs.GitHeaders.{starts, is_git_line, is_extended, has_line, action_of}
-use Rattle.patch_header.specs.GitRows.{lines_of, old_mode_of, new_mode_of, git_lines_in, from_by, to_by, from_in, to_in, with_row, header_back, old_name_back, new_name_back, led_rows, ends_with_git, is_unified, led_by, led_directly}
+use Rattle.patch_header.specs.GitHeaders.{starts, is_git_line, is_extended, has_line, action_of, is_plain, asks_alone}
+use Rattle.patch_header.specs.GitRows.{lines_of, old_mode_of, new_mode_of, old_mode_in, new_mode_in, git_lines_in, from_by, to_by, from_in, to_in, with_row, header_back, old_name_back, new_name_back, led_rows, ends_with_git, is_unified, led_by, led_directly}
 use Rattle.patch_header.specs.Region.{Row, rows, tail_of, first_some, last_tail, later}
-use Rattle.patch_header.specs.Said.{said_with, action_said, from_by_said, to_by_said, from_said, to_said, push_said, header_said, kept_if, trail_said, said_in, trail_back, trail_in, or_nothing, led_in, led_said, leads_directly}
+use Rattle.patch_header.specs.Said.{said_with, action_said, asks_said, from_by_said, to_by_said, from_said, to_said, push_said, header_said, kept_if, trail_said, said_in, trail_back, trail_in, or_nothing, led_in, led_said, leads_directly}
 use Rattle.patch_header.specs.declared.region.Tail.{Tail}
 use Rattle.patch_header.specs.declared.ways.Ways.{Ways}
 use Rattle.header_record.specs.declared.Action.{Action}
@@ -90,6 +90,81 @@ action-is rs =
     ∙ ap (λ v. chosen n d (has_line (codes "rename from ") ls) v (is_some (last_tail (codes "copy from ") rs)) (is_some (last_tail (codes "copy to ") rs))) (last-there (codes "rename to ") rs)
     ∙ ap (λ v. chosen n d (has_line (codes "rename from ") ls) (has_line (codes "rename to ") ls) v (is_some (last_tail (codes "copy to ") rs))) (last-there (codes "copy from ") rs)
     ∙ ap (λ v. chosen n d (has_line (codes "rename from ") ls) (has_line (codes "rename to ") ls) (has_line (codes "copy from ") ls) v) (last-there (codes "copy to ") rs)
+
+-- ---- a mode that is changed
+
+later-there : (a b : Option Tail) → is_some (later a b) ≡ (is_some a || is_some b)
+later-there None None = refl
+later-there None (Some t) = refl
+later-there (Some s) None = refl
+later-there (Some s) (Some t) = refl
+
+first-later : (o p : Option Tail) → is_some (cond (is_some o) o p) ≡ (is_some o || is_some p)
+first-later None p = refl
+first-later (Some t) p = refl
+
+tail-there : (mark : List ℕ) (r : Row) → is_some (tail_of mark r) ≡ starts mark r.line
+tail-there mark r = by (starts mark r.line) (record { number = r.number; start = r.start + length mark; end = r.start + length (content r.line) })
+  where
+    by : (v : Bool) (t : Tail) → is_some (cond v (Some t) None) ≡ v
+    by true t = refl
+    by false t = refl
+
+or-four : (a b c d : Bool) → ((a || b) || (c || d)) ≡ ((a || c) || (b || d))
+or-four true b c d = refl
+or-four false true true d = refl
+or-four false true false d = refl
+or-four false false c d = refl
+
+-- a line of either kind
+two-there : (f : Row → Option Tail) (m n : List ℕ) → ((r : Row) → is_some (f r) ≡ (starts m r.line || starts n r.line)) → (rs : List Row) → is_some (first_some f rs) ≡ (has_line m (lines_of rs) || has_line n (lines_of rs))
+two-there f m n each [] = refl
+two-there f m n each (r ∷ rs) =
+    first-later (f r) (first_some f rs)
+    ∙ ap (λ v. v || is_some (first_some f rs)) (each r)
+    ∙ ap (λ v. (starts m r.line || starts n r.line) || v) (two-there f m n each rs)
+    ∙ or-four (starts m r.line) (starts n r.line) (has_line m (lines_of rs)) (has_line n (lines_of rs))
+
+last-two : (f : Row → Option Tail) (m n : List ℕ) → ((r : Row) → is_some (f r) ≡ (starts m r.line || starts n r.line)) → (rs : List Row) → is_some (first_some f (reverse rs)) ≡ (has_line m (lines_of rs) || has_line n (lines_of rs))
+last-two f m n each rs =
+    two-there f m n each (reverse rs)
+    ∙ ap (λ v. v || has_line n (lines_of (reverse rs))) (has-turned m rs)
+    ∙ ap (λ v. has_line m (lines_of rs) || v) (has-turned n rs)
+
+old-there : (rs : List Row) → is_some (old_mode_in rs) ≡ (has_line (codes "old mode ") (lines_of rs) || has_line (codes "deleted file mode ") (lines_of rs))
+old-there rs =
+    last-two old_mode_of (codes "old mode ") (codes "deleted file mode ")
+    (λ r. later-there (tail_of (codes "old mode ") r) (tail_of (codes "deleted file mode ") r) ∙ ap (λ v. v || is_some (tail_of (codes "deleted file mode ") r)) (tail-there (codes "old mode ") r) ∙ ap (λ v. starts (codes "old mode ") r.line || v) (tail-there (codes "deleted file mode ") r)) rs
+
+new-there : (rs : List Row) → is_some (new_mode_in rs) ≡ (has_line (codes "new mode ") (lines_of rs) || has_line (codes "new file mode ") (lines_of rs))
+new-there rs =
+    last-two new_mode_of (codes "new mode ") (codes "new file mode ")
+    (λ r. later-there (tail_of (codes "new mode ") r) (tail_of (codes "new file mode ") r) ∙ ap (λ v. v || is_some (tail_of (codes "new file mode ") r)) (tail-there (codes "new mode ") r) ∙ ap (λ v. starts (codes "new mode ") r.line || v) (tail-there (codes "new file mode ") r)) rs
+
+-- of a file that is neither new nor deleted no such line tells a mode
+both-modes : (n d r c o w : Bool) → (not (is_plain (cond n New (cond d Deleted (cond r Rename (cond c Copy Plain))))) || ((o || d) && (w || n))) ≡ (not (is_plain (cond n New (cond d Deleted (cond r Rename (cond c Copy Plain))))) || (o && w))
+both-modes true d r c o w = refl
+both-modes false true r c o w = refl
+both-modes false false true c o w = refl
+both-modes false false false true o w = refl
+both-modes false false false false true true = refl
+both-modes false false false false true false = refl
+both-modes false false false false false w = refl
+
+pub asks-is : (rs : List Row) → asks_said (git_lines_in rs) ≡ asks_alone (lines_of rs)
+unfolding action_of asks_alone
+asks-is rs =
+    let ls = lines_of rs in
+    let n = has_line (codes "new file mode ") ls in
+    let d = has_line (codes "deleted file mode ") ls in
+    let o = has_line (codes "old mode ") ls in
+    let w = has_line (codes "new mode ") ls in
+    ap (λ a. not (is_plain a) || (is_some (old_mode_in rs) && is_some (new_mode_in rs))) (action-is rs)
+    ∙ ap (λ v. not (is_plain (action_of ls)) || (v && is_some (new_mode_in rs))) (old-there rs)
+    ∙ ap (λ v. not (is_plain (action_of ls)) || ((o || d) && v)) (new-there rs)
+    ∙ both-modes n d (has_line (codes "rename from ") ls && has_line (codes "rename to ") ls) (has_line (codes "copy from ") ls && has_line (codes "copy to ") ls) o w
+
+-- ---- names
 
 same-from : (a : Action) (rs : List Row) → from_by_said a (git_lines_in rs) ≡ from_by a rs
 same-from Plain rs = refl

@@ -7,7 +7,7 @@ use Rattle.std.proofs.Math.Seq.{get_or-append_seam}
 use Rattle.std.proofs.lemmas.List.{append-nil, reverse-append, take-append-le, take_all}
 use Rattle.hunk_core.specs.LineTests.{after}
 use Rattle.patch_header.specs.Content.{content}
-use Rattle.patch_header.specs.GitHeaders.{starts, is_git_line, is_extended, extended_run, behind_run, has_line, action_of, is_plain, leads, begins_bare}
+use Rattle.patch_header.specs.GitHeaders.{starts, is_git_line, is_extended, extended_run, behind_run, is_index_line, has_line, action_of, is_plain, changes_mode, asks_alone, leads, begins_bare}
 use Rattle.patch_header.specs.GitRows.{half, are_alike, has_halves, header_back, old_name_back, new_name_back, led_rows}
 use Rattle.patch_header.specs.Region.{Row}
 use Rattle.header_record.specs.declared.Action.{Action}
@@ -105,70 +105,95 @@ copy-words ls h =
     let both : has_copy ls ≡ true = told-copy (has_new ls) (has_deleted ls) (has_rename ls) (has_copy ls) (sym (action-by ls) ∙ h) in
     (and_left _ _ both, and_right (has_line (codes "copy from ") ls) _ both)
 
--- ---- modes alone
+-- ---- modes, and contents alone
 
--- no line of modes is one that tells an action
-record IsModes (l : List ℕ) : Type 0 where
+pub modes-words : (git : List ℕ) (rest : List (List ℕ)) → is_git_line git ≡ true → leads (behind_run rest) ≡ false → has_line (codes "old mode ") (extended_run rest) ≡ true → has_line (codes "new mode ") (extended_run rest) ≡ true
+    → begins_bare (git ∷ rest) ≡ true
+unfolding begins_bare asks_alone
+modes-words git rest is none old new =
+    let run = extended_run rest in
+    let plain = not (is_plain (action_of run)) in
+    ap (λ v. v && (not (leads (behind_run rest)) && (plain || changes_mode run))) is
+    ∙ ap (λ v. not v && (plain || changes_mode run)) none
+    ∙ ap (λ v. plain || (v && has_line (codes "new mode ") run)) old
+    ∙ ap (λ v. plain || v) new
+    ∙ or-yes plain
+  where
+    or-yes : (v : Bool) → (v || true) ≡ true
+    or-yes true = refl
+    or-yes false = refl
+
+-- no line of contents is one that asks for something
+record IsOfContents (l : List ℕ) : Type 0 where
   new : starts (codes "new file mode ") l ≡ false
   deleted : starts (codes "deleted file mode ") l ≡ false
   rename : starts (codes "rename from ") l ≡ false
   copy : starts (codes "copy from ") l ≡ false
+  mode : starts (codes "old mode ") l ≡ false
 
-old-modes : (l rest : List ℕ) → content l ≡ codes "old mode " ++ rest → IsModes l
+similar-line : (l rest : List ℕ) → content l ≡ codes "similarity index " ++ rest → IsOfContents l
 unfolding after
-old-modes l rest e = record { new = rw e refl; deleted = rw e refl; rename = rw e refl; copy = rw e refl }
+similar-line l rest e = record { new = rw e refl; deleted = rw e refl; rename = rw e refl; copy = rw e refl; mode = rw e refl }
 
-new-modes : (l rest : List ℕ) → content l ≡ codes "new mode " ++ rest → IsModes l
+dissimilar-line : (l rest : List ℕ) → content l ≡ codes "dissimilarity index " ++ rest → IsOfContents l
 unfolding after
-new-modes l rest e = record { new = rw e refl; deleted = rw e refl; rename = rw e refl; copy = rw e refl }
+dissimilar-line l rest e = record { new = rw e refl; deleted = rw e refl; rename = rw e refl; copy = rw e refl; mode = rw e refl }
 
-abbrev is_modes : List ℕ → Bool
-is_modes l = starts (codes "old mode ") l || starts (codes "new mode ") l
+index-line : (l rest : List ℕ) → content l ≡ codes "index " ++ rest → IsOfContents l
+unfolding after
+index-line l rest e = record { new = rw e refl; deleted = rw e refl; rename = rw e refl; copy = rw e refl; mode = rw e refl }
 
-modes-line : (l : List ℕ) → is_modes l ≡ true → IsModes l
-modes-line l h = by (starts (codes "old mode ") l) refl h
+contents-line : (l : List ℕ) → is_index_line l ≡ true → IsOfContents l
+contents-line l h = by (starts (codes "similarity index ") l) refl h
   where
-    by : (v : Bool) → starts (codes "old mode ") l ≡ v → (v || starts (codes "new mode ") l) ≡ true → IsModes l
-    by true e k = let s = (starts-words (codes "old mode ") l).0 e in old-modes l s.0 s.1
-    by false e k = let s = (starts-words (codes "new mode ") l).0 k in new-modes l s.0 s.1
+    two : (v : Bool) → starts (codes "dissimilarity index ") l ≡ v → (v || starts (codes "index ") l) ≡ true → IsOfContents l
+    two true e k = let s = (starts-words (codes "dissimilarity index ") l).0 e in dissimilar-line l s.0 s.1
+    two false e k = let s = (starts-words (codes "index ") l).0 k in index-line l s.0 s.1
+
+    by : (v : Bool) → starts (codes "similarity index ") l ≡ v → (v || (starts (codes "dissimilarity index ") l || starts (codes "index ") l)) ≡ true → IsOfContents l
+    by true e k = let s = (starts-words (codes "similarity index ") l).0 e in similar-line l s.0 s.1
+    by false e k = two (starts (codes "dissimilarity index ") l) refl k
 
 neither : (v w : Bool) → v ≡ false → w ≡ false → (v || w) ≡ false
 neither v w e f = rw (e, f) refl
 
-record HasModes (ls : List (List ℕ)) : Type 0 where
+record HasContents (ls : List (List ℕ)) : Type 0 where
   new : has_new ls ≡ false
   deleted : has_deleted ls ≡ false
   rename : has_line (codes "rename from ") ls ≡ false
   copy : has_line (codes "copy from ") ls ≡ false
+  mode : has_line (codes "old mode ") ls ≡ false
 
-modes-lines : (ls : List (List ℕ)) → AllByRecursion (λ l. is_modes l ≡ true) ls → HasModes ls
-modes-lines [] h = record { new = refl; deleted = refl; rename = refl; copy = refl }
-modes-lines (l ∷ ls) h =
-    let one = modes-line l h.0 in
-    let more = modes-lines ls h.1 in
+contents-lines : (ls : List (List ℕ)) → AllByRecursion (λ l. is_index_line l ≡ true) ls → HasContents ls
+contents-lines [] h = record { new = refl; deleted = refl; rename = refl; copy = refl; mode = refl }
+contents-lines (l ∷ ls) h =
+    let one = contents-line l h.0 in
+    let more = contents-lines ls h.1 in
     record {
       new = neither (starts (codes "new file mode ") l) (has_new ls) one.new more.new;
       deleted = neither (starts (codes "deleted file mode ") l) (has_deleted ls) one.deleted more.deleted;
       rename = neither (starts (codes "rename from ") l) (has_line (codes "rename from ") ls) one.rename more.rename;
       copy = neither (starts (codes "copy from ") l) (has_line (codes "copy from ") ls) one.copy more.copy;
+      mode = neither (starts (codes "old mode ") l) (has_line (codes "old mode ") ls) one.mode more.mode;
     }
 
 plain-chosen : (n d a b c e : Bool) → n ≡ false → d ≡ false → a ≡ false → c ≡ false → chosen n d (a && b) (c && e) ≡ Plain
 plain-chosen n d a b c e hn hd ha hc = rw (hn, hd, ha, hc) refl
 
-no-more : (v w : Bool) → (v && (w && not true)) ≡ false
+no-more : (v w : Bool) → (v && (w && false)) ≡ false
 no-more true true = refl
 no-more true false = refl
 no-more false w = refl
 
-pub modes-words : (git : List ℕ) (rest : List (List ℕ)) → AllByRecursion (λ l. (starts (codes "old mode ") l || starts (codes "new mode ") l) ≡ true) (extended_run rest) → begins_bare (git ∷ rest) ≡ false
-unfolding begins_bare
-modes-words git rest h =
+pub contents-words : (git : List ℕ) (rest : List (List ℕ)) → AllByRecursion (λ l. is_index_line l ≡ true) (extended_run rest) → begins_bare (git ∷ rest) ≡ false
+unfolding begins_bare asks_alone
+contents-words git rest h =
     let run = extended_run rest in
-    let modes = modes-lines run h in
+    let no = contents-lines run h in
     let plain : action_of run ≡ Plain = action-by run
-    ∙ plain-chosen (has_new run) (has_deleted run) (has_line (codes "rename from ") run) (has_line (codes "rename to ") run) (has_line (codes "copy from ") run) (has_line (codes "copy to ") run) modes.new modes.deleted modes.rename modes.copy in
-    ap (λ a. is_git_line git && (not (leads (behind_run rest)) && not (is_plain a))) plain
+    ∙ plain-chosen (has_new run) (has_deleted run) (has_line (codes "rename from ") run) (has_line (codes "rename to ") run) (has_line (codes "copy from ") run) (has_line (codes "copy to ") run) no.new no.deleted no.rename no.copy in
+    ap (λ a. is_git_line git && (not (leads (behind_run rest)) && (not (is_plain a) || changes_mode run))) plain
+    ∙ ap (λ v. is_git_line git && (not (leads (behind_run rest)) && (v && has_line (codes "new mode ") run))) no.mode
     ∙ no-more (is_git_line git) (not (leads (behind_run rest)))
 
 -- ---- what leads an opening

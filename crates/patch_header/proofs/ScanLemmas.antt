@@ -5,14 +5,14 @@ use Rattle.std.proofs.lemmas.List.{append-nil}
 use Rattle.std.proofs.lemmas.List.Sums.{sum_by-append}
 use Rattle.line_list.specs.Lines.{lines, IsLineAt}
 use Rattle.patch_header.specs.Content.{is_dot, has_dot}
-use Rattle.patch_header.specs.GitHeaders.{is_extended, extended_run, behind_run, git_header, action_of}
+use Rattle.patch_header.specs.GitHeaders.{is_extended, extended_run, behind_run, git_header, asks_alone}
 use Rattle.patch_header.specs.GitRows.{git_lines_in}
 use Rattle.patch_header.specs.Region.{row, rows}
-use Rattle.patch_header.specs.Said.{said_with, action_said, SaysWithin}
+use Rattle.patch_header.specs.Said.{said_with, asks_said, SaysWithin}
 use Rattle.patch_header.specs.Scanning.{HasScanned, IsBlock}
 use Rattle.patch_header.specs.declared.bare.Block.{Block}
 use Rattle.patch_header.specs.declared.git_lines.GitLines.{GitLines}
-use Rattle.patch_header.proofs.GitLemmas.{said-push, action-is, lines-back}
+use Rattle.patch_header.proofs.GitLemmas.{said-push, asks-is, lines-back}
 use Rattle.patch_header.proofs.Rows.{line_length}
 
 pub run-more : (line : List ℕ) (rest : List (List ℕ)) → is_extended line ≡ true → extended_run (line ∷ rest) ≡ line ∷ extended_run rest
@@ -110,7 +110,7 @@ scan-done text at number here h none all =
       low = h.low;
       count = h.count;
       said = said;
-      action = ap action_said said ∙ action-is (rows number at run) ∙ ap action_of (lines-back number at run);
+      asks = ap asks_said said ∙ asks-is (rows number at run) ∙ ap asks_alone (lines-back number at run);
       behind = h.behind ∙ all;
       place = omega (arith, place, sums);
       counted = omega (arith, counted, longer);

@@ -65,6 +65,14 @@ is_plain Deleted = false
 is_plain Rename = false
 is_plain Copy = false
 
+-- a file's mode is changed: the old and the new one are told
+abbrev pub changes_mode : List (List ℕ) → Bool
+changes_mode ls = has_line (codes "old mode ") ls && has_line (codes "new mode ") ls
+
+-- something is asked for without a hunk: that a file is new, deleted, renamed or copied, or has another mode
+unfoldable pub asks_alone : List (List ℕ) → Bool
+asks_alone ls = not (is_plain (action_of ls)) || changes_mode ls
+
 -- a line of the new name, and a hunk directly behind it
 abbrev pub has_new_name : List (List ℕ) → Bool
 has_new_name [] = false
@@ -79,7 +87,7 @@ has_names (line ∷ rest) = starts (codes "--- ") line && has_new_name rest
 abbrev pub leads : List (List ℕ) → Bool
 leads ls = begins_hunk ls || has_names ls
 
--- a bare git header begins these lines: it leads nothing that follows it directly, and says that a file is new, deleted, renamed or copied
+-- a bare git header begins these lines: it leads nothing that follows it directly, and asks for something on its own
 unfoldable pub begins_bare : List (List ℕ) → Bool
 begins_bare [] = false
-begins_bare (line ∷ rest) = is_git_line line && (not (leads (behind_run rest)) && not (is_plain (action_of (extended_run rest))))
+begins_bare (line ∷ rest) = is_git_line line && (not (leads (behind_run rest)) && asks_alone (extended_run rest))

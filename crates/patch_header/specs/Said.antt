@@ -1,9 +1,9 @@
 -- What a search keeps of git headers while it passes their lines.
-use Rattle.std.specs.Prelude.{ℕ, Bool, ◌&&◌, ◌||◌, List, [], reverse, Option, None, Some, is_some, IfSome, codes, if◌then◌else◌}
+use Rattle.std.specs.Prelude.{ℕ, Bool, not, ◌&&◌, ◌||◌, List, [], reverse, Option, None, Some, is_some, IfSome, codes, if◌then◌else◌}
 use Rattle.std.specs.Option.{option_or}
 use Rattle.line_list.specs.declared.Span.{Span}
 use Rattle.hunk_core.specs.declared.Form.{Form}
-use Rattle.patch_header.specs.GitHeaders.{starts, is_git_line, is_extended}
+use Rattle.patch_header.specs.GitHeaders.{starts, is_git_line, is_extended, is_plain}
 use Rattle.patch_header.specs.GitRows.{old_mode_of, new_mode_of, git_lines_in, whole_in, header_back, old_name_back, new_name_back, is_unified}
 use Rattle.patch_header.specs.Region.{Row, tail_of, later, LiesIn}
 use Rattle.patch_header.specs.declared.ways.Ways.{Ways}
@@ -33,6 +33,10 @@ has_copy s = is_some s.copy_from && is_some s.copy_to
 
 abbrev pub action_said : GitLines → Action
 action_said s = if s.is_new then New else if s.is_deleted then Deleted else if has_rename s then Rename else if has_copy s then Copy else Plain
+
+-- the action isn't `Plain`, or both modes are told
+abbrev pub asks_said : GitLines → Bool
+asks_said s = not (is_plain (action_said s)) || (is_some s.old_mode && is_some s.new_mode)
 
 abbrev pub from_by_said : Action → GitLines → Option Span
 from_by_said Plain s = None

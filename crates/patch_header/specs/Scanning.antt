@@ -1,9 +1,9 @@
 -- How far a scan of extended lines has come.
 use Rattle.std.specs.Prelude.{◌≡◌, ℕ, ◌+◌, ◌≤◌, List, ◌++◌, length, drop, sum_by}
 use Rattle.line_list.specs.Lines.{lines}
-use Rattle.patch_header.specs.GitHeaders.{extended_run, behind_run, action_of}
+use Rattle.patch_header.specs.GitHeaders.{extended_run, behind_run, asks_alone}
 use Rattle.patch_header.specs.GitRows.{git_lines_in}
-use Rattle.patch_header.specs.Said.{action_said, SaysWithin}
+use Rattle.patch_header.specs.Said.{asks_said, SaysWithin}
 use Rattle.patch_header.specs.Region.{Row, rows}
 use Rattle.patch_header.specs.declared.bare.Block.{Block}
 
@@ -26,7 +26,7 @@ pub record IsBlock (text : List ℕ) (at number : ℕ) (b : Block) : Type 0 wher
   pub low : at ≤ b.end
   pub count : b.number + at ≤ number + b.end
   pub said : b.lines ≡ git_lines_in (rows number at (extended_run (lines (drop at text))))
-  pub action : action_said b.lines ≡ action_of (extended_run (lines (drop at text)))
+  pub asks : asks_said b.lines ≡ asks_alone (extended_run (lines (drop at text)))
   pub behind : behind_run (lines (drop at text)) ≡ lines (drop b.end text)
   pub place : b.end ≡ at + sum_by length (extended_run (lines (drop at text)))
   pub counted : b.number ≡ number + length (extended_run (lines (drop at text)))

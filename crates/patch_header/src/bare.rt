@@ -4,7 +4,7 @@ ghost use Rattle.std.specs.Prelude.{◌≡◌, ℕ, ◌<◌, ◌≤◌, ◌+◌,
 ghost use Rattle.std.specs.List.{position};
 ghost use Rattle.line_list.specs.Lines.{lines, IsLineAt};
 ghost use Rattle.patch_header.specs.Content.{has_dot};
-ghost use Rattle.patch_header.specs.GitHeaders.{git_header, extended_run, behind_run, action_of, is_plain, is_extended, has_new_name, has_names, leads, begins_bare};
+ghost use Rattle.patch_header.specs.GitHeaders.{git_header, extended_run, behind_run, asks_alone, is_extended, has_new_name, has_names, leads, begins_bare};
 ghost use Rattle.patch_header.specs.GitRows.{has_halves, half, halves, quoted_or_word, second, two_words, both_names, are_alike, old_half, new_half, git_name, FitsIn};
 ghost use Rattle.patch_header.specs.Openings.{begins_binary, tells_binary};
 ghost use Rattle.patch_header.specs.Said.{SaysWithin};
@@ -16,8 +16,8 @@ ghost use Rattle.patch_header.specs.Steps.{bare_with, HasPieces};
 
 use crate::content::is_binary;
 use crate::git_lines::{
-    GitLines, action_of, from_in, is_extended, is_git_line, is_plain, no_git_lines, starts, to_in,
-    with_line,
+    GitLines, action_of, asks_alone, from_in, is_extended, is_git_line, no_git_lines, starts,
+    to_in, with_line,
 };
 use crate::region::{Seen, Tail, tail_of};
 use crate::values::{blanks, index_in, length_or, span_at, whole_in, word_in, word_length};
@@ -101,14 +101,14 @@ fn leads(text: &[u8], at: usize) -> bool
     unified_form::at_opening(text, at) || has_names(text, at)
 }
 
-/// Whether the extended lines from a place on say more than modes, and lead nothing behind them.
-fn says_more(text: &[u8], at: usize) -> bool
+/// Whether the extended lines from a place on ask for something on their own, and lead nothing behind them.
+fn stands_alone(text: &[u8], at: usize) -> bool
     requires short { length text.now < 2 ^ 32 }
     requires within { at ≤ length text.now }
-    ensures { result ≡ (not (leads (behind_run (lines (drop at text.now)))) && not (is_plain (action_of (extended_run (lines (drop at text.now)))))) }
+    ensures { result ≡ (not (leads (behind_run (lines (drop at text.now)))) && asks_alone (extended_run (lines (drop at text.now)))) }
 {
     let block = extended_from(text, at, 0);
-    !leads(text, block.end) && !is_plain(action_of(block.lines))
+    !leads(text, block.end) && asks_alone(block.lines)
 }
 
 /// Whether a bare git header begins with the line from `at` up to `end`. It looks ahead over its
@@ -119,7 +119,7 @@ pub fn is_bare(text: &[u8], at: usize, end: usize) -> bool
     requires line { IsLineAt text.now at end }
     ensures { result ≡ begins_bare (lines (drop at text.now)) }
 {
-    is_git_line(&text[at..end]) && says_more(text, end)
+    is_git_line(&text[at..end]) && stands_alone(text, end)
 }
 
 /// Whether the line directly behind the git header that begins with the line from `at` up to `end` is a binary line.

@@ -6,7 +6,7 @@ ghost use Rattle.patch_header.specs.Region.{row, LiesIn};
 ghost use Rattle.patch_header.specs.Values.{IsPieceOf};
 ghost use Rattle.patch_header.specs.GitHeaders.{starts, is_git_line, is_mode_line, is_name_line, is_index_line, is_extended, is_plain};
 ghost use Rattle.patch_header.specs.GitRows.{old_mode_of, new_mode_of, git_lines_in};
-ghost use Rattle.patch_header.specs.Said.{said_with, has_rename, has_copy, action_said, from_said, to_said, SaysWithin};
+ghost use Rattle.patch_header.specs.Said.{said_with, has_rename, has_copy, action_said, asks_said, from_said, to_said, SaysWithin};
 
 use crate::content::content;
 use crate::region::{Tail, later, tail_of};
@@ -183,13 +183,23 @@ pub fn action_of(lines: GitLines) -> Action
 }
 
 /// Whether an action changes nothing but lines.
-pub fn is_plain(action: Action) -> bool
+fn is_plain(action: Action) -> bool
     ensures { result ≡ is_plain action }
 {
     match action {
         Action::Plain => true,
         Action::New | Action::Deleted | Action::Rename | Action::Copy => false,
     }
+}
+
+/// Whether the extended lines ask for something without a hunk.
+pub fn asks_alone(lines: GitLines) -> bool
+    ensures { result ≡ asks_said lines }
+{
+    if !is_plain(action_of(lines)) {
+        return true;
+    }
+    lines.old_mode.is_some() && lines.new_mode.is_some()
 }
 
 /// The name that the extended lines rename or copy a file from.

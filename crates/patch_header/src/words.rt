@@ -7,7 +7,7 @@ ghost use Rattle.hunk_core.specs.LineTests.{ends_line};
 ghost use Rattle.patch_header.specs.Content.{content, is_binary, is_dot};
 ghost use Rattle.patch_header.specs.Region.{Row, tail_of, last_tail};
 ghost use Rattle.patch_header.specs.Values.{is_blank, is_white, unblanked, bare_length, name_length, index_length, word_length};
-ghost use Rattle.patch_header.specs.GitHeaders.{starts, is_git_line, is_extended, extended_run, behind_run, has_line, action_of, begins_bare};
+ghost use Rattle.patch_header.specs.GitHeaders.{starts, is_git_line, is_index_line, is_extended, extended_run, behind_run, has_line, action_of, leads, begins_bare};
 ghost use Rattle.patch_header.specs.GitRows.{led_rows, are_alike, has_halves};
 ghost use Rattle.patch_header.specs.declared.region.Tail.{Tail};
 
@@ -64,8 +64,11 @@ pub fn git_headers_in_words()
     // A rename has both lines, and so has a copy.
     ensures rename { (ls : List (List ℕ)) → action_of ls ≡ Action.Rename → (has_line (codes "rename from ") ls ≡ true) × (has_line (codes "rename to ") ls ≡ true) }
     ensures copy { (ls : List (List ℕ)) → action_of ls ≡ Action.Copy → (has_line (codes "copy from ") ls ≡ true) × (has_line (codes "copy to ") ls ≡ true) }
-    // A git header whose extended lines are all of modes is ordinary text.
-    ensures modes { (git : List ℕ) (rest : List (List ℕ)) → AllByRecursion (λ l. (starts (codes "old mode ") l || starts (codes "new mode ") l) ≡ true) (extended_run rest) → begins_bare (git ∷ rest) ≡ false }
+    // A git header that tells both modes is bare, where it leads nothing.
+    ensures modes { (git : List ℕ) (rest : List (List ℕ)) → is_git_line git ≡ true → leads (behind_run rest) ≡ false → has_line (codes "old mode ") (extended_run rest) ≡ true → has_line (codes "new mode ") (extended_run rest) ≡ true
+        → begins_bare (git ∷ rest) ≡ true }
+    // One whose extended lines are all of contents is ordinary text.
+    ensures contents { (git : List ℕ) (rest : List (List ℕ)) → AllByRecursion (λ l. is_index_line l ≡ true) (extended_run rest) → begins_bare (git ∷ rest) ≡ false }
     // A git header leads an opening where a line of each name, and nothing else, stands between.
     ensures led { (front gs : List Row) (git old new : Row) → is_git_line git.line ≡ true → AllByRecursion (λ r. (is_git_line r.line ≡ false) × (is_extended r.line ≡ true)) gs
         → starts (codes "--- ") old.line ≡ true → starts (codes "+++ ") new.line ≡ true → led_rows (front ++ git ∷ (gs ++ old ∷ new ∷ [])) ≡ gs }

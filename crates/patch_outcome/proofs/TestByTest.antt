@@ -1,10 +1,11 @@
 -- What a file patch asks for, test by test.
+use Rattle.std.specs.Prelude.{is_some}
 use Rattle.std.proofs.Common.{◌≡◌, Bool, true, false, not, ◌&&◌, ◌||◌, if◌then◌else◌, bytes_eq, ◌∙◌, ap}
 use Rattle.hunk_apply.specs.Written.{is_nothing}
 use Rattle.hunk_core.specs.declared.Side.{Side}
 use Rattle.file_patch.specs.Absent.{deletes}
 use Rattle.file_patch.specs.declared.derived.Target.{Target}
-use Rattle.patch_task.specs.Asking.{moves, renames, is_bare, acts_new, acts_deleted, takes_files}
+use Rattle.patch_task.specs.Asking.{moves, renames, is_bare, acts_new, acts_deleted, takes_files, mode_asked}
 use Rattle.patch_task.specs.Turns.{PlainTurn}
 use Rattle.patch_task.specs.Outputs.{Tried, some_placed}
 use Rattle.patch_outcome.specs.Outcome.{is_taken_away, is_made_bare, is_backup_apart}
@@ -16,22 +17,31 @@ module _ (t : PlainTurn) (x : Tried) where
       ∙ ap (λ b. if b then acts_deleted x.side t.item.patch else deletes x.side t.item.patch && some_placed x.verdicts) bare
       ∙ ap (λ (s : Side). acts_deleted s t.item.patch) from
 
+  abbrev rest : Side → Bool
+  rest s = if acts_deleted s t.item.patch then is_taken_away t x && is_nothing x.text else is_some (mode_asked t.options s t.item.patch)
+
   pub made_new : (side : Side) → x.side ≡ side → acts_new side t.item.patch ≡ true → is_made_bare t x ≡ true
-  made_new side from is = ap (λ (s : Side). acts_new s t.item.patch || moves t.item.patch || (is_taken_away t x && is_nothing x.text)) from ∙ ap (λ b. b || moves t.item.patch || (is_taken_away t x && is_nothing x.text)) is
+  made_new side from is = ap (λ (s : Side). acts_new s t.item.patch || moves t.item.patch || rest s) from ∙ ap (λ b. b || moves t.item.patch || rest side) is
 
   module _ (side : Side) (from : x.side ≡ side) (old : acts_new side t.item.patch ≡ false) where
     pub made_moved : moves t.item.patch ≡ true → is_made_bare t x ≡ true
     made_moved is =
-        ap (λ (s : Side). acts_new s t.item.patch || moves t.item.patch || (is_taken_away t x && is_nothing x.text)) from
-        ∙ ap (λ b. b || moves t.item.patch || (is_taken_away t x && is_nothing x.text)) old
-        ∙ ap (λ b. b || (is_taken_away t x && is_nothing x.text)) is
+        ap (λ (s : Side). acts_new s t.item.patch || moves t.item.patch || rest s) from
+        ∙ ap (λ b. b || moves t.item.patch || rest side) old
+        ∙ ap (λ b. b || rest side) is
 
-    pub made_gone : moves t.item.patch ≡ false → (taken : Bool) → is_taken_away t x ≡ taken → is_made_bare t x ≡ (taken && is_nothing x.text)
-    made_gone stays taken is =
-        ap (λ (s : Side). acts_new s t.item.patch || moves t.item.patch || (is_taken_away t x && is_nothing x.text)) from
-        ∙ ap (λ b. b || moves t.item.patch || (is_taken_away t x && is_nothing x.text)) old
-        ∙ ap (λ b. b || (is_taken_away t x && is_nothing x.text)) stays
-        ∙ ap (λ b. b && is_nothing x.text) is
+    module _ (stays : moves t.item.patch ≡ false) where
+      by_rest : is_made_bare t x ≡ rest side
+      by_rest =
+          ap (λ (s : Side). acts_new s t.item.patch || moves t.item.patch || rest s) from
+          ∙ ap (λ b. b || moves t.item.patch || rest side) old
+          ∙ ap (λ b. b || rest side) stays
+
+      pub made_gone : acts_deleted side t.item.patch ≡ true → is_made_bare t x ≡ (is_taken_away t x && is_nothing x.text)
+      made_gone is = by_rest ∙ ap (λ b. if b then is_taken_away t x && is_nothing x.text else is_some (mode_asked t.options side t.item.patch)) is
+
+      pub made_moded : acts_deleted side t.item.patch ≡ false → is_made_bare t x ≡ is_some (mode_asked t.options side t.item.patch)
+      made_moded is = by_rest ∙ ap (λ b. if b then is_taken_away t x && is_nothing x.text else is_some (mode_asked t.options side t.item.patch)) is
 
 module _ (t : PlainTurn) (w other : Target) (own : bytes_eq w.backup w.name ≡ false) where
   pub apart_moved : renames t.item.patch ≡ true → is_backup_apart t w other ≡ not (bytes_eq w.backup other.name)

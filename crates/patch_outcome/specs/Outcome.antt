@@ -18,7 +18,7 @@ use Rattle.hunk_apply.specs.Written.{is_nothing}
 use Rattle.reject_text.specs.Rejects.{reject_text, hunks_in}
 use Rattle.say_text.specs.Messages.{not_deleting_line, failures_line}
 use Rattle.patch_task.specs.TargetEffects.{put_if, backup_effects, target_effects, moved_effects}
-use Rattle.patch_task.specs.Asking.{moves, renames, is_bare, acts_new, acts_deleted, takes_files}
+use Rattle.patch_task.specs.Asking.{moves, renames, is_bare, acts_new, acts_deleted, takes_files, mode_asked}
 use Rattle.patch_task.specs.Turns.{Mark, PlainTurn, written, written_by, renamed_by, shown, shown_reject, total}
 use Rattle.patch_task.specs.Outputs.{Tried, failed, some_placed, some_failed}
 use Rattle.patch_outcome.specs.HunksSaid.{change_said}
@@ -111,9 +111,9 @@ is_backup_apart t w other = not (bytes_eq w.backup w.name) && not (renames t.ite
 abbrev pub is_backup_due : PlainTurn → Target → Target → List Verdict → Bool
 is_backup_due t w other vs = not (was_written t.past w.name) && is_backup_apart t w other && is_backup_asked t vs
 
--- without a hunk the target is written where a file is made, renamed or copied, or an empty one is taken away
+-- without a hunk the target is written where a file is made, renamed or copied, an empty one is taken away, or a file that stays gets a mode
 abbrev pub is_made_bare : PlainTurn → Tried → Bool
-is_made_bare t x = acts_new x.side t.item.patch || moves t.item.patch || (is_taken_away t x && is_nothing x.text)
+is_made_bare t x = acts_new x.side t.item.patch || moves t.item.patch || (if acts_deleted x.side t.item.patch then is_taken_away t x && is_nothing x.text else is_some (mode_asked t.options x.side t.item.patch))
 
 -- and with hunks where one was placed
 abbrev pub is_written : PlainTurn → Tried → Bool

@@ -15,7 +15,7 @@ ghost use Rattle.file_patch.specs.PlainPatch.{row_count};
 ghost use Rattle.patch_options.specs.PlainJob.{plain_options};
 ghost use Rattle.patch_task.specs.Asking.{renames};
 ghost use Rattle.patch_task.specs.Outputs.{Tried, IsSession};
-ghost use Rattle.patch_outcome.specs.Outcome.{is_backup_due, is_backup_apart, is_made_bare, is_old_kept, is_written, is_unwanted, is_always_put, is_removal, is_moving, keeps_old, written_effects, effects_of, wrote, has_rejects};
+ghost use Rattle.patch_outcome.specs.Outcome.{is_backup_due, is_backup_apart, is_made_bare, is_taken_away, is_old_kept, is_written, is_unwanted, is_always_put, is_removal, is_moving, keeps_old, written_effects, effects_of, wrote, has_rejects};
 ghost use Rattle.patch_task.specs.Making.{Makes, GoesQuietly, IsGone, IsTidy};
 ghost use Rattle.patch_task.specs.Named.{IsNamed};
 ghost use Rattle.patch_outcome.specs.TurnView.{plain_turn, IsTurn};
@@ -30,8 +30,8 @@ use hunk_core::{Side, Verdict};
 use outside::{Failed, Tree};
 use patch_options::Options;
 use patch_task::{
-    Made, RunFault, acts_new, is_bare, is_same, keep_old, mode_asked, renames, takes_files,
-    write_moved, write_placed,
+    Made, RunFault, acts_deleted, acts_new, is_bare, is_same, keep_old, mode_asked, renames,
+    takes_files, write_moved, write_placed,
 };
 use replace_file::Temp;
 
@@ -194,6 +194,17 @@ fn is_made_bare(turn: &Turn<'_>, side: Side, session: &Session) -> bool
     if turn.task.patch.is_moved() {
         return true;
     }
+    if acts_deleted(turn.task.patch, side) {
+        return is_emptied(turn, side, session);
+    }
+    mode_asked(&turn.task, side).is_some()
+}
+
+/// Whether the file is to be taken away, and has no byte.
+fn is_emptied(turn: &Turn<'_>, side: Side, session: &Session) -> bool
+    requires turn { IsTurn turn.now }
+    ensures { (x : Tried) → x.side ≡ side → IsSession session.now x.verdicts x.text → result ≡ (is_taken_away (plain_turn turn.now) x && is_nothing x.text) }
+{
     is_taken_away(turn, side, session) && session.output_empty
 }
 

@@ -9,7 +9,7 @@ const BINARY: &str = "--skip-binary passes over binary changes";
 
 /// What `reversediff` can't turn round.
 const NO_WAY_BACK: &str =
-    "a rename, a copy, an empty file that is made or goes, or hunks out of order can't be turned round";
+    "a rename, a copy, a mode alone, an empty file that is made or goes, or hunks out of order can't be turned round";
 
 /// What can't be written in the forms without context.
 const NO_COMMANDS: &str =

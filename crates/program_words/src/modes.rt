@@ -44,12 +44,12 @@ fn put_mode(lines: &mut Lines, tool: &str, taking: Taking, header: &[u8], line: 
 
 /// The mode that the line gives the file, if it gives one.
 fn mode_in(line: &[u8], is_reversed: bool) -> Option<&[u8]> {
-    let (made, changed) = if is_reversed {
-        (b"deleted file mode ".as_slice(), b"old mode ".as_slice())
+    let made = if is_reversed {
+        b"deleted file mode ".as_slice()
     } else {
-        (b"new file mode ".as_slice(), b"new mode ".as_slice())
+        b"new file mode ".as_slice()
     };
-    line.strip_prefix(made).or(line.strip_prefix(changed))
+    line.strip_prefix(made).or(line.strip_prefix(b"new mode "))
 }
 
 /// The name that the file then has, as `-p` leaves it.

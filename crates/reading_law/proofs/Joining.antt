@@ -18,7 +18,7 @@ use Rattle.ed_form.specs.Commands as ed_commands
 use Rattle.ed_form.specs.Grammar as ed
 use Rattle.ed_form.specs.Scripts.{begins_substitution}
 use Rattle.patch_header.specs.Content.{is_dot, has_dot}
-use Rattle.patch_header.specs.GitHeaders.{is_git_line, is_extended, extended_run, behind_run, git_header, action_of, is_plain, has_names, leads, begins_bare}
+use Rattle.patch_header.specs.GitHeaders.{is_git_line, is_extended, extended_run, behind_run, git_header, asks_alone, has_names, leads, begins_bare}
 use Rattle.patch_header.specs.Openings.{admits, begins, begins_binary, asks_dot, tells_binary, stops_bare, stop_at}
 use Rattle.patch_header.specs.Steps.{region_of}
 use Rattle.patch_header.specs.declared.openings.Stop.{Stop}
@@ -165,11 +165,11 @@ bare-by : (line : List ℕ) (rest others : List (List ℕ)) → (extended_run (r
 unfolding begins_bare
 bare-by line rest others run names h =
     let git : is_git_line line ≡ true = and_left _ _ h in
-    let action : not (is_plain (action_of (extended_run (rest ++ [])))) ≡ true = and_right (not (leads (behind_run (rest ++ [])))) _ (and_right (is_git_line line) _ h) in
-    ap (λ v. v && (not (leads (behind_run (rest ++ others))) && not (is_plain (action_of (extended_run (rest ++ others)))))) git
-    ∙ ap (λ v. not v && not (is_plain (action_of (extended_run (rest ++ others))))) names
-    ∙ ap (λ ls. not (is_plain (action_of ls))) run
-    ∙ action
+    let asks : asks_alone (extended_run (rest ++ [])) ≡ true = and_right (not (leads (behind_run (rest ++ [])))) _ (and_right (is_git_line line) _ h) in
+    ap (λ v. v && (not (leads (behind_run (rest ++ others))) && asks_alone (extended_run (rest ++ others)))) git
+    ∙ ap (λ v. not v && asks_alone (extended_run (rest ++ others))) names
+    ∙ ap asks_alone run
+    ∙ asks
 
 no-bare : begins_bare [] ≡ true → ⊥
 unfolding begins_bare

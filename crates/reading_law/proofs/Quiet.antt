@@ -12,7 +12,7 @@ use Rattle.normal_form.specs.Commands as normal
 use Rattle.normal_form.specs.Hunks.{begins_marked}
 use Rattle.ed_form.specs.Commands.{is_command}
 use Rattle.patch_header.specs.Content.{is_dot, has_dot}
-use Rattle.patch_header.specs.GitHeaders.{starts, is_git_line, is_extended, extended_run, behind_run, action_of, is_plain, has_new_name, has_names, leads, begins_bare}
+use Rattle.patch_header.specs.GitHeaders.{starts, is_git_line, is_extended, extended_run, behind_run, asks_alone, has_new_name, has_names, leads, begins_bare}
 use Rattle.patch_header.specs.Openings.{admits, asks_dot, opens, begins_binary, is_passed_over, stops_binary, stops_bare, stop_at}
 use Rattle.patch_header.specs.Steps.{AreQuiet}
 use Rattle.patch_header.specs.declared.ways.Ways.{Ways}
@@ -71,8 +71,8 @@ module _ (rest other : List (List ℕ)) (same : LookAlike rest other) where
   more-bare : (line : List ℕ) (more : List (List ℕ)) → begins_bare (line ∷ (more ++ rest)) ≡ begins_bare (line ∷ (more ++ other))
   unfolding begins_bare
   more-bare line more =
-      ap (λ v. is_git_line line && (not v && not (is_plain (action_of (extended_run (more ++ rest)))))) (more-behind more)
-      ∙ ap (λ ls. is_git_line line && (not (leads (behind_run (more ++ other))) && not (is_plain (action_of ls)))) (more-run more)
+      ap (λ v. is_git_line line && (not v && asks_alone (extended_run (more ++ rest)))) (more-behind more)
+      ∙ ap (λ ls. is_git_line line && (not (leads (behind_run (more ++ other))) && asks_alone ls)) (more-run more)
 
   more-text : (more : List (List ℕ)) → begins_binary (more ++ rest) ≡ begins_binary (more ++ other)
   more-text [] = same.text

@@ -62,8 +62,9 @@ const ROWS: &[&str] = &[
     "git=diff --git a/x b/y\nsimilarity index 90%\nrename from x\nrename to y\n@@ -1 +1 @@\n-a\n+b\n=Unified 5 5; [] [] [] []; Unknown Unknown; Rename false [x] [y]",
     // Without a hunk directly behind them the lines of both names lead nothing.
     "git=diff --git a/f b/f\nnew mode 100755\n--- a/f\n+++ b/f\n\n@@ -1 +1 @@\n=Unified 6 3; [a/f] [b/f] [] []; Unknown Unknown; Plain false [] []",
-    // Modes alone are ordinary text.
-    "git=diff --git a/f b/f\nold mode 100644\nnew mode 100755\n=End",
+    // Both modes alone are a file patch, one of them is ordinary text.
+    "git=diff --git a/f b/f\nold mode 100644\nnew mode 100755\n=Unified 1 1; [a/f] [b/f] [] []; Unknown Unknown; Plain true [] []; [100644] [100755]",
+    "git=diff --git a/f b/f\nold mode 100644\nindex 1..2\n=End",
     "git=diff --git a/f b/f\n\nnew file mode 100644\n=End",
     "-=diff --git a/e b/e\nnew file mode 100644\n=End",
 ];

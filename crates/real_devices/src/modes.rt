@@ -107,13 +107,16 @@ fn modes_end(look: Look, header: &[u8]) -> Option<usize> {
     if !line.starts_with(b"old mode ") {
         return Some(if is_no_file(line) { second } else { 0 });
     }
+    if !look.is_stack {
+        return Some(0);
+    }
     let third = line_end(header, second)?;
     let next = match line_end(header, third) {
         Some(fourth) => header.get(third..fourth).unwrap_or(&[]),
         None if look.is_end => header.get(third..).unwrap_or(&[]),
         None => return None,
     };
-    Some(if is_left(look, next) { third } else { 0 })
+    Some(if is_left(next) { third } else { 0 })
 }
 
 /// Whether the line says that what is made or taken away is a link, or another thing that is no file.
@@ -127,12 +130,8 @@ fn is_no_file(line: &[u8]) -> bool {
     }
 }
 
-/// Whether a change of modes isn't carried out that this line follows: nothing else is changed, or it is a stack's that
-/// neither renames nor copies the file.
-fn is_left(look: Look, next: &[u8]) -> bool {
-    if next.starts_with(b"index ") || next.starts_with(b"--- ") {
-        return look.is_stack;
-    }
+/// Whether a change of modes in a stack isn't carried out that this line follows, since the file is neither renamed nor copied.
+fn is_left(next: &[u8]) -> bool {
     !(next.starts_with(b"similarity ")
         || next.starts_with(b"dissimilarity ")
         || next.starts_with(b"rename ")

@@ -1,7 +1,7 @@
 use Rattle.patch_header.proofs.bare.is_bare.Goals as goal
 
-pub says_more-requires-clause-short : goal.says_more-requires-clause-short
-says_more-requires-clause-short c = c.requires.short
+pub stands_alone-requires-clause-short : goal.stands_alone-requires-clause-short
+stands_alone-requires-clause-short c = c.requires.short
 
-pub says_more-requires-clause-within : goal.says_more-requires-clause-within
-says_more-requires-clause-within c = c.requires.line.high
+pub stands_alone-requires-clause-within : goal.stands_alone-requires-clause-within
+stands_alone-requires-clause-within c = c.requires.line.high

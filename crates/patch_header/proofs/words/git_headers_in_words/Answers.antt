@@ -1,4 +1,4 @@
-use Rattle.patch_header.proofs.GitWords.{starts-words, run-words, all-words, new-words, deleted-words, rename-words, copy-words, modes-words, led-words, halves-words}
+use Rattle.patch_header.proofs.GitWords.{starts-words, run-words, all-words, new-words, deleted-words, rename-words, copy-words, modes-words, contents-words, led-words, halves-words}
 use Rattle.patch_header.proofs.words.git_headers_in_words.Goals as goal
 
 pub returns-clause-starts : goal.returns-clause-starts
@@ -24,6 +24,9 @@ returns-clause-copy c = copy-words
 
 pub returns-clause-modes : goal.returns-clause-modes
 returns-clause-modes c = modes-words
+
+pub returns-clause-contents : goal.returns-clause-contents
+returns-clause-contents c = contents-words
 
 pub returns-clause-led : goal.returns-clause-led
 returns-clause-led c = led-words
