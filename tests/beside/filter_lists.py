@@ -8,13 +8,14 @@ from filter_patterns import is_one_of, without_patches
 LISTED = []
 NAMED = []
 NULL_NAMES = (b'', b'src/f.c', b'f.c')  # what ours lists where both names are /dev/null: none, or that of the Index line
-LINE = re.compile(rb'(?:(\d*)\t)?(?:([-+!?]?) )?(.*)')
+LINE = re.compile(rb'([pq][:-])?(?:(\d*)\t)?(?:([-+!?]?) )?(.*)')
 
 
 def rewritten(out, of_line):
-    """The list with each line changed by a function of its number, sign and name; None leaves it out."""
-    found = (of_line(*LINE.fullmatch(line).groups()) for line in out.split(b'\n')[:-1])
-    return b''.join(b'%s\t%s %s\n' % tuple(word or b'' for word in line) for line in found if line)
+    """The list with each line changed by a function of its number, sign and name; None leaves it out. The name of a file stays in front."""
+    lines = [LINE.fullmatch(line).groups() for line in out.split(b'\n')[:-1]]
+    found = ((file, of_line(*line)) for file, *line in lines)
+    return b''.join(b'%s%s\t%s %s\n' % tuple(word or b'' for word in (file, *line)) for file, line in found if line)
 
 
 def without_named(case, out, odd, besides=()):
@@ -69,6 +70,14 @@ def with_header_lines(case, out):
     found = parts(text_of(case))
     headers = {b'%d' % (part.at + 1): b'%d' % (part.at + len(part.lines) + 1) for part in found if part.kind == 'block'}
     return rewritten(out, lambda number, sign, name: (headers.get(number, number), sign, name))
+
+
+@change(LISTED, 'numbers-per-file')
+def without_numbers(case, out):
+    """No numbers of lines, where several files are listed: patchutils counts on from one to the next."""
+    if not {'p', 'q'} <= set(case.runs[0].words):
+        return out
+    return re.sub(rb'(?m)^([pq](?::|-\t ?))\d+\t', rb'\1\t', out)
 
 
 def lone_names(text):

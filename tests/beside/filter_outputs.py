@@ -16,8 +16,9 @@ def change(table, key):
 
 
 def text_of(case):
-    """The patch text of a case."""
-    return case.tree[b'p'].data
+    """The patch text of a case, or its texts one behind the other."""
+    named = [word for word in case.runs[0].words if word in ('p', 'q')] or ['p']
+    return b''.join(case.tree[name.encode()].data for name in named)
 
 
 @change(FORMATTED, 'line-feed-cut')

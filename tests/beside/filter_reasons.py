@@ -6,7 +6,7 @@ import filter_words
 from case import Difference
 from filter_cuts import CUT, SEPARATOR, parts_left
 from filter_lists import LISTED, NAMED, lone_names
-from filter_outputs import FORMATTED, FOUND, RECOUNTED, WRITTEN, without_starts, without_text
+from filter_outputs import FORMATTED, FOUND, RECOUNTED, WRITTEN, text_of, without_starts, without_text
 from filter_parts import RANGES, lines_of
 
 
@@ -64,15 +64,16 @@ def pattern_files(case, theirs, ours, found):
 
 def printed(case, theirs, ours, found):
     """Both print something, and it is the same but for causes that have keys."""
-    if [each.what for each in found] != ['out'] or not is_chosen(case, ours.out[0]):
+    ended = ['status'] if 'missing' in case.runs[0].words and theirs.status == [1] and ours.status == [2] else []
+    if [each.what for each in found] != [*ended, 'out'] or not is_chosen(case, ours.out[0]):
         return []
-    keys = fewest(case, theirs.out[0], ours.out[0], causes(case))
+    keys = fewest(case, theirs.out[0], ours.out[0], causes(case)) + (['refusal-status'] if ended else [])
     return [] if 'moved-starts' in keys and not has_told_starts(case, ours.out[0]) else keys
 
 
 def has_told_starts(case, out):
     """Whether the range lines of the unified hunks are those of the text, but for what stands behind them."""
-    known = {found.group(0) for found in RANGES.finditer(case.tree[b'p'].data)}
+    known = {found.group(0) for found in RANGES.finditer(text_of(case))}
     formatted = any(word.startswith('--format=') for word in case.runs[0].words)
     return formatted or all(found.group(0) in known for found in map(RANGES.match, lines_of(out)) if found)
 
@@ -83,7 +84,7 @@ def is_chosen(case, out):
     writes = run.tool == 'filterdiff' or any(word.startswith('--output-m') for word in run.words)
     if not writes or any(word.startswith(('--format', '--annotate', '--as-', '--strip=', '--add', '--remove')) for word in run.words):
         return True
-    rest = iter(lines_of(without_starts(case, case.tree[b'p'].data)))
+    rest = iter(lines_of(without_starts(case, text_of(case))))
     return all(line in rest for line in lines_of(without_starts(case, out)))
 
 

@@ -2,7 +2,6 @@
 import re
 
 LONG = [
-    (r'--(with|no)-filename', 'several-files'),
     (r'--clean', 'clean'),
     (r'--as-numbered-lines', 'as-numbered-lines'),
     (r'--(strip|addprefix|addoldprefix|addnewprefix|remove-timestamps)\b', 'output-names'),
@@ -10,8 +9,8 @@ LONG = [
     (r'--(hunk|excl|fo)=', 'filter-words'),
 ]
 LETTERS = {
-    'lsdiff': {'H': 'several-files', 'h': 'several-files', 'N': 'filter-words', 'z': 'filter-words'},
-    'grepdiff': {'H': 'several-files', 'h': 'several-files', **dict.fromkeys('Nfz', 'filter-words')},
+    'lsdiff': {'N': 'filter-words', 'z': 'filter-words'},
+    'grepdiff': dict.fromkeys('Nfz', 'filter-words'),
     'filterdiff': {'v': 'text-between', '#': 'filter-words', 'F': 'filter-words', 'z': 'filter-words', 'n': 'filter-words'},
     'splitdiff': dict.fromkeys('dDEpv', 'split-names'),
     'recountdiff': {},
@@ -53,7 +52,5 @@ def key_of_refusal(run, told):
     if "can't take" in told and len(named) == 2:
         same = option_of(named[0]) == option_of(named[1])
         return 'filter-words' if same else next(filter(None, (key_of_word(run.tool, word) for word in named)), None)
-    if "can't take" in told and named in (['p'], ['q'], ['missing']):
-        return 'several-files'
     words = [word for word in named if word and not (len(named) == 2 and word == named[0])]
     return next((key for key in (key_of_word(run.tool, word) for word in words) if key), None)

@@ -94,14 +94,14 @@ module _ (text : List ℕ) (start before : ℕ) (p : FilePatch) (at : IsPlaced t
   written-same j = ap (λ (ts : List (List ℕ)). if p.header.bare then written_bare j text p else (if list_any (λ is. is) (kept j (change_of text p.change)) then region text p ++ chosen (kept j (change_of text p.change)) ts else []))
       (cut-bytes text p.header p.hunk_spans.items p.span.end at.cut)
 
-  lines-same : hunk_lines text p ≡ spot_lines text (spot text p)
-  lines-same = ap (lines_from (first_line p.header.form p.header.opening) 1) (cut-bytes text p.header p.hunk_spans.items p.span.end at.cut)
+  lines-same : (label : List ℕ) → hunk_lines label text p ≡ spot_lines label text (spot text p)
+  lines-same label = ap (lines_from label (first_line p.header.form p.header.opening) 1) (cut-bytes text p.header p.hunk_spans.items p.span.end at.cut)
 
   list-same : (j : PlainListJob) → list_lines j text p ≡ spot_listed j text (spot text p)
-  list-same j = ap (λ (ls : List (List ℕ)). name_line j.shown (patch_of text p) ++ text_if (j.shown.hunks, flat_map (λ line. line) ls)) lines-same
+  list-same j = ap (λ (ls : List (List ℕ)). name_line j.shown (patch_of text p) ++ text_if (j.shown.hunks, flat_map (λ line. line) ls)) (lines-same j.shown.hunk_label)
 
   found-same : (hit : List ℕ → Bool) (out : GrepOut) (j : PlainGrepJob) → found_text hit out j text p ≡ spot_found hit out j text (spot text p)
-  found-same hit Names j = ap (λ (ls : List (List ℕ)). name_line j.shown (patch_of text p) ++ text_if (j.shown.hunks, chosen (hits_of j.searched hit (change_of text p.change)) ls)) lines-same
+  found-same hit Names j = ap (λ (ls : List (List ℕ)). name_line j.shown (patch_of text p) ++ text_if (j.shown.hunks, chosen (hits_of j.searched hit (change_of text p.change)) ls)) (lines-same j.shown.hunk_label)
   found-same hit Hunks j = ap (λ (ts : List (List ℕ)). region text p ++ chosen (hits_of j.searched hit (change_of text p.change)) ts) (cut-bytes text p.header p.hunk_spans.items p.span.end at.cut)
   found-same hit Files j = refl
 

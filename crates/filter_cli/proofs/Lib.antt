@@ -5,6 +5,7 @@ pub mod Sifted
 pub mod Sifters
 pub mod Split
 pub mod Formed
+mod Turning
 mod ByText
 mod Coming
 mod Written

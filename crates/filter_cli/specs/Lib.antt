@@ -8,3 +8,4 @@ pub mod Texts
 pub mod Outcomes
 pub mod Sifting
 pub mod Converting
+pub mod InTurn

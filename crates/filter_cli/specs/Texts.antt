@@ -15,13 +15,13 @@ use Rattle.whole_filters.specs.Texts.{Spot, spots_in, patches_in, front_of, piec
 
 -- ---- `lsdiff`
 
--- the lines of the hunks of a file patch
-abbrev pub spot_lines : List ℕ → Spot → List (List ℕ)
-spot_lines text s = lines_from (first_line s.0.header.form s.0.header.opening) 1 (pieces_of text s.0)
+-- the lines of the hunks of a file patch, with this in front
+abbrev pub spot_lines : List ℕ → List ℕ → Spot → List (List ℕ)
+spot_lines label text s = lines_from label (first_line s.0.header.form s.0.header.opening) 1 (pieces_of text s.0)
 
 -- the line of a file patch, and those of its hunks where they are asked for
 abbrev pub spot_listed : PlainListJob → List ℕ → Spot → List ℕ
-spot_listed j text s = name_line j.shown s.1 ++ text_if (j.shown.hunks, flat_map (λ line. line) (spot_lines text s))
+spot_listed j text s = name_line j.shown s.1 ++ text_if (j.shown.hunks, flat_map (λ line. line) (spot_lines j.shown.hunk_label text s))
 
 -- what is written of the file patches of a text that are selected; without hunks their lines are enough
 unfoldable pub listed_in : PlainListJob → List ℕ → List ℕ
@@ -54,7 +54,7 @@ filtered_in j text = flat_map (λ n. spot_written j (completed text) n.1) (filte
 -- of a file patch that is found its line and, where that is asked for, those of the hunks with a hit; or the lines in front of its hunks and
 -- just these hunks; or all of it
 abbrev pub spot_found : (List ℕ → Bool) → GrepOut → PlainGrepJob → List ℕ → Spot → List ℕ
-spot_found hit Names j text s = name_line j.shown s.1 ++ text_if (j.shown.hunks, chosen (hits_of j.searched hit s.1.change) (spot_lines text s))
+spot_found hit Names j text s = name_line j.shown s.1 ++ text_if (j.shown.hunks, chosen (hits_of j.searched hit s.1.change) (spot_lines j.shown.hunk_label text s))
 spot_found hit Hunks j text s = front_of text s.0 ++ chosen (hits_of j.searched hit s.1.change) (pieces_of text s.0)
 spot_found hit Files j text s = all_of text s.0
 

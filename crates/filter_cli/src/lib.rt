@@ -9,7 +9,8 @@ mod form_fault;
 mod reading;
 pub mod sifting;
 mod tools;
+mod turns;
 
-pub use carrying::run_filter;
 pub use form_fault::FormFault;
 pub use sifting::digests_are_filtered_as_sets;
+pub use turns::run_filters;

@@ -1,5 +1,5 @@
 -- Where hunks begin, one behind the other, and the lines that tell it.
-use Rattle.std.proofs.Common.{◌≡◌, ℕ, zero, suc, ◌+◌, ◌-◌, ◌<◌, ◌≤◌, ◌==◌, List, [], ◌∷◌, length, map, get_or, Some, refl, sym, ap, ◌∙◌, length-take, arith}
+use Rattle.std.proofs.Common.{◌≡◌, ℕ, zero, suc, ◌+◌, ◌-◌, ◌<◌, ◌≤◌, ◌==◌, List, [], ◌∷◌, ◌++◌, length, map, get_or, Some, refl, sym, ap, ◌∙◌, length-take, arith}
 use Rattle.std.specs.Prelude.{slice_get, count_by, drop}
 use Rattle.std.proofs.lemmas.List.{length-map}
 use Rattle.std.proofs.lemmas.List.Sums.{count_by-le-length}
@@ -21,16 +21,17 @@ begun line zero ps = line
 begun line (suc i) [] = line
 begun line (suc i) (p ∷ ps) = begun (line + feeds p) i ps
 
-pub lines-long : (line number : ℕ) (ps : List (List ℕ)) → length (lines_from line number ps) ≡ length ps
-lines-long line number [] = refl
-lines-long line number (p ∷ ps) = ap suc (lines-long (line + feeds p) (suc number) ps)
+module _ (label : List ℕ) where
+  pub lines-long : (line number : ℕ) (ps : List (List ℕ)) → length (lines_from label line number ps) ≡ length ps
+  lines-long line number [] = refl
+  lines-long line number (p ∷ ps) = ap suc (lines-long (line + feeds p) (suc number) ps)
 
-pub line-at : (line number i : ℕ) (ps : List (List ℕ)) → i < length ps → slice_get (lines_from line number ps) i ≡ Some (hunk_line (begun line i ps) (number + i))
-line-at line number i [] lt = absurd (omega (arith, lt))
-line-at line number zero (p ∷ ps) lt = let e : number ≡ number + 0 = omega arith in ap (λ n. Some (hunk_line line n)) e
-line-at line number (suc i) (p ∷ ps) lt =
-    let e : suc number + i ≡ number + suc i = omega arith in
-    line-at (line + feeds p) (suc number) i ps (omega (arith, lt)) ∙ ap (λ n. Some (hunk_line (begun (line + feeds p) i ps) n)) e
+  pub line-at : (line number i : ℕ) (ps : List (List ℕ)) → i < length ps → slice_get (lines_from label line number ps) i ≡ Some (label ++ hunk_line (begun line i ps) (number + i))
+  line-at line number i [] lt = absurd (omega (arith, lt))
+  line-at line number zero (p ∷ ps) lt = let e : number ≡ number + 0 = omega arith in ap (λ n. Some (label ++ hunk_line line n)) e
+  line-at line number (suc i) (p ∷ ps) lt =
+      let e : suc number + i ≡ number + suc i = omega arith in
+      line-at (line + feeds p) (suc number) i ps (omega (arith, lt)) ∙ ap (λ n. Some (label ++ hunk_line (begun (line + feeds p) i ps) n)) e
 
 begun-more : (line i : ℕ) (ps : List (List ℕ)) → i < length ps → begun line (suc i) ps ≡ begun line i ps + feeds (get_or ps i [])
 begun-more line i [] lt = absurd (omega (arith, lt))
@@ -50,15 +51,15 @@ module _ (text : List ℕ) (p : FilePatch) where
   pub pieces-long : length (pieces text p) ≡ length p.hunk_spans.items
   pieces-long = length-map p.hunk_spans.items (bytes_at text)
 
-  pub hunk-lines-long : length (hunk_lines text p) ≡ length p.hunk_spans.items
-  hunk-lines-long = lines-long first 1 (pieces text p) ∙ pieces-long
+  pub hunk-lines-long : (label : List ℕ) → length (hunk_lines label text p) ≡ length p.hunk_spans.items
+  hunk-lines-long label = lines-long label first 1 (pieces text p) ∙ pieces-long
 
-  pub shown-at : (i line : ℕ) → i < length p.hunk_spans.items → line ≡ begun first i (pieces text p) → slice_get (hunk_lines text p) i ≡ Some (hunk_line line (i + 1))
-  shown-at i line lt is =
+  pub shown-at : (label : List ℕ) (i line : ℕ) → i < length p.hunk_spans.items → line ≡ begun first i (pieces text p) → slice_get (hunk_lines label text p) i ≡ Some (label ++ hunk_line line (i + 1))
+  shown-at label i line lt is =
       let e : 1 + i ≡ i + 1 = omega arith in
-      line-at first 1 i (pieces text p) (omega (arith, lt, pieces-long))
-      ∙ ap (λ n. Some (hunk_line n (1 + i))) (sym is)
-      ∙ ap (λ n. Some (hunk_line line n)) e
+      line-at label first 1 i (pieces text p) (omega (arith, lt, pieces-long))
+      ∙ ap (λ n. Some (label ++ hunk_line n (1 + i))) (sym is)
+      ∙ ap (λ n. Some (label ++ hunk_line line n)) e
 
   pub line-next : (i line more : ℕ) → i < length p.hunk_spans.items → line ≡ begun first i (pieces text p) → more ≡ feeds (get_or (pieces text p) i []) → line + more ≡ begun first (i + 1) (pieces text p)
   line-next i line more lt is count = begun-next first i line more (pieces text p) (omega (arith, lt, pieces-long)) is count

@@ -35,7 +35,7 @@ module _ (j : PlainListJob) (none : j.shown.empty_absent ≡ false) where
   same-line : (p : PlainPatch) → name_line j.shown (outline p) ≡ name_line j.shown p
   same-line p =
       let s = j.shown in
-      ap (λ (t : List ℕ). (number_text s.numbers p.header.names_line ++ (if s.status then t else [])) ++ (shown_name s.prefix s.strip (plain_name p.header) ++ codes "\n")) (same-sign s.empty_absent p none)
+      ap (λ (t : List ℕ). s.label ++ ((number_text s.numbers p.header.names_line ++ (if s.status then t else [])) ++ (shown_name s.prefix s.strip (plain_name p.header) ++ codes "\n"))) (same-sign s.empty_absent p none)
 
   same-lines : (ps : List PlainPatch) → flat_map (name_line j.shown) (filter (is_listed j) (map outline ps)) ≡ flat_map (name_line j.shown) (filter (is_listed j) ps)
   same-lines [] = refl

@@ -9,7 +9,7 @@ use Rattle.patch_set.specs.SetView.{SetView}
 use Rattle.tool_words.specs.PlainJobs.{PlainFilterJob, PlainListJob, PlainShown}
 use Rattle.filter_choice.specs.Selected.{numbered}
 use Rattle.filter_choice.proofs.Rows.{flat-if}
-use Rattle.patch_filters.specs.Listed.{front, is_listed, line_if_selected, lines_if_selected, list_lines, listed, listed_whole, name_line}
+use Rattle.patch_filters.specs.Listed.{front, is_listed, line_if_selected, lines_if_selected, list_lines, listed, listed_whole, name_line, own_line}
 use Rattle.patch_filters.specs.Filtered.{filtered, is_taken_of, written, written_if_taken}
 
 pub listed-is : (j : PlainListJob) (ps : List PlainPatch) → listed j ps ≡ flat_map (line_if_selected j) ps
@@ -26,7 +26,7 @@ filtered-is j v = flat-if (is_taken_of j v.text) (λ n. written j v.text n.1) (n
 
 -- the line of a file patch, from its parts
 pub line-shown : (s : PlainShown) (text : List ℕ) (p : FilePatch) (at shown name : List ℕ) → at ≡ front s (patch_of text p) → shown ≡ shortened s.strip name → name ≡ plain_name (header_of text p.header)
-    → at ++ (s.prefix ++ (shown ++ codes "\n")) ≡ name_line s (patch_of text p)
+    → at ++ (s.prefix ++ (shown ++ codes "\n")) ≡ own_line s (patch_of text p)
 line-shown s text p at shown name front-is shown-is name-is =
     ap (λ (l : List ℕ). l ++ (s.prefix ++ (shown ++ codes "\n"))) front-is
     ∙ ap (λ (l : List ℕ). front s (patch_of text p) ++ (s.prefix ++ (l ++ codes "\n"))) (shown-is ∙ ap (shortened s.strip) name-is)

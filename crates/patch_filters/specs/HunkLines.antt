@@ -14,10 +14,10 @@ feeds text = count_by (λ b. b == 10) text
 abbrev pub hunk_line : ℕ → ℕ → List ℕ
 hunk_line line number = (((codes "\t" ++ decimal line) ++ codes "\tHunk #") ++ decimal number) ++ codes "\n"
 
--- those of hunks with these texts, of which the first begins at this line and has this number
-abbrev pub lines_from : ℕ → ℕ → List (List ℕ) → List (List ℕ)
-lines_from line number [] = []
-lines_from line number (piece ∷ pieces) = hunk_line line number ∷ lines_from (line + feeds piece) (suc number) pieces
+-- those of hunks with these texts, of which the first begins at this line and has this number; each has a label in front
+abbrev pub lines_from : List ℕ → ℕ → ℕ → List (List ℕ) → List (List ℕ)
+lines_from label line number [] = []
+lines_from label line number (piece ∷ pieces) = (label ++ hunk_line line number) ∷ lines_from label (line + feeds piece) (suc number) pieces
 
 -- where the first hunk begins, whose opening has this number: in the context form behind its line of stars
 abbrev pub first_line : Form → ℕ → ℕ
@@ -27,5 +27,5 @@ first_line Normal opening = opening
 first_line Ed opening = opening
 
 -- those of all hunks of a file patch
-abbrev pub hunk_lines : List ℕ → FilePatch → List (List ℕ)
-hunk_lines text p = lines_from (first_line p.header.form p.header.opening) 1 (pieces text p)
+abbrev pub hunk_lines : List ℕ → List ℕ → FilePatch → List (List ℕ)
+hunk_lines label text p = lines_from label (first_line p.header.form p.header.opening) 1 (pieces text p)

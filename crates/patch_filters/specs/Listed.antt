@@ -49,8 +49,12 @@ abbrev pub front : PlainShown → PlainPatch → List ℕ
 front s p = number_text s.numbers p.header.names_line ++ sign_text s p
 
 -- the line of a file patch, with its name as it is shown
+abbrev pub own_line : PlainShown → PlainPatch → List ℕ
+own_line s p = front s p ++ (shown_name s.prefix s.strip (plain_name p.header) ++ codes "\n")
+
+-- the same behind the name of its text, where that is shown
 abbrev pub name_line : PlainShown → PlainPatch → List ℕ
-name_line s p = front s p ++ (shown_name s.prefix s.strip (plain_name p.header) ++ codes "\n")
+name_line s p = s.label ++ own_line s p
 
 -- the file patch is selected
 abbrev pub is_listed : PlainListJob → PlainPatch → Bool
@@ -72,7 +76,7 @@ asks_hunks s = s.hunks || s.empty_absent
 
 -- the line of a file patch, and those of its hunks where they are asked for
 abbrev pub list_lines : PlainListJob → List ℕ → FilePatch → List ℕ
-list_lines j text p = name_line j.shown (patch_of text p) ++ text_if (j.shown.hunks, flat_map (λ line. line) (hunk_lines text p))
+list_lines j text p = name_line j.shown (patch_of text p) ++ text_if (j.shown.hunks, flat_map (λ line. line) (hunk_lines j.shown.hunk_label text p))
 
 -- those of each selected file patch
 unfoldable pub listed_whole : PlainListJob → SetView → List ℕ

@@ -13,7 +13,7 @@ ghost use Rattle.patch_filters.specs.HunkLines.{hunk_lines};
 ghost use Rattle.patch_filters.specs.Grepped.{Finds, HasGrepCause, IsAsked, IsFirst, found_text, grepped, hits_of, test_of, text_if_found};
 
 use crate::GrepFault;
-use crate::hunk_lines::{first_line, hunk_feeds, hunk_line};
+use crate::hunk_lines::{first_line, hunk_feeds, hunk_line, put_labelled};
 use crate::list::put_name_line;
 use crate::pieces::{bytes_at, put_hunk, put_piece, put_region};
 use crate::search::{first_hit, is_hit, keep_pattern};
@@ -22,7 +22,7 @@ use filter_choice::{is_selected, patch_at};
 use outside::{Finder, Sink};
 use patch_set::PatchSet;
 use std::alloc::{AllocError, Global};
-use tool_words::{GrepJob, GrepOut, Searched};
+use tool_words::{GrepJob, GrepOut, Searched, Shown};
 
 /// Writes a hunk, counted from 0, if it has a hit.
 fn put_if_hit<F: Finder, O: Sink>(
@@ -97,7 +97,7 @@ fn is_hit_behind<F: Finder>(
     is_hit(alloc, text, searched, &patch.change, hunk, finder)
 }
 
-/// Writes a line if a hunk, counted from 0, has a hit, where this is the first one that has.
+/// Writes the line of a hunk if this, counted from 0, has a hit, where this is the first one that has.
 fn put_line_if_hit<F: Finder, O: Sink>(
     alloc: Global,
     text: &[u8],
@@ -105,6 +105,7 @@ fn put_line_if_hit<F: Finder, O: Sink>(
     patch: &FilePatch,
     first: u32,
     hunk: u32,
+    shown: &Shown,
     line: &[u8],
     finder: &mut F,
     out: &mut O,
@@ -113,12 +114,12 @@ fn put_line_if_hit<F: Finder, O: Sink>(
     requires lawful { IsLawfulChange text.now patch.now.change }
     requires within { hunk < row_count patch.now.change }
     requires first { IsFirst (hits_of searched (test_of (F.view finder.old)) (change_of text.now patch.now.change)) (Some first) }
-    ensures { Finds O.view O.same_rest (F.view finder.old) (F.view finder.new) out.old out.new result (text_if (slice_index_or (hits_of searched (test_of (F.view finder.old)) (change_of text.now patch.now.change)) hunk false, line.now)) }
+    ensures { Finds O.view O.same_rest (F.view finder.old) (F.view finder.new) out.old out.new result (text_if (slice_index_or (hits_of searched (test_of (F.view finder.old)) (change_of text.now patch.now.change)) hunk false, shown.now.hunk_label.items ++ line.now)) }
 {
     if !is_hit_behind(alloc, text, searched, patch, first, hunk, finder)? {
         return Ok(());
     }
-    Ok(put_piece(out, line)?)
+    Ok(put_labelled(shown, line, out)?)
 }
 
 /// Writes the lines of the hunks that have a hit, of which this is the first.
@@ -128,6 +129,7 @@ fn put_hit_lines<F: Finder, O: Sink>(
     searched: Searched,
     patch: &FilePatch,
     first: u32,
+    shown: &Shown,
     finder: &mut F,
     out: &mut O,
 ) -> Result<(), GrepFault>
@@ -135,11 +137,11 @@ fn put_hit_lines<F: Finder, O: Sink>(
     requires lawful { IsLawfulChange text.now patch.now.change }
     requires placed { IsPlaced text.now patch.now.span.start patch.now.first_verdict patch.now }
     requires first { IsFirst (hits_of searched (test_of (F.view finder.old)) (change_of text.now patch.now.change)) (Some first) }
-    ensures { Finds O.view O.same_rest (F.view finder.old) (F.view finder.new) out.old out.new result (chosen (hits_of searched (test_of (F.view finder.old)) (change_of text.now patch.now.change)) (hunk_lines text.now patch.now)) }
+    ensures { Finds O.view O.same_rest (F.view finder.old) (F.view finder.new) out.old out.new result (chosen (hits_of searched (test_of (F.view finder.old)) (change_of text.now patch.now.change)) (hunk_lines shown.now.hunk_label.items text.now patch.now)) }
 {
     let mut line = first_line(patch);
     for hunk in 0..patch.hunks() {
-        let shown = hunk_line(line, u64::from(hunk) + 1);
+        let own = hunk_line(line, u64::from(hunk) + 1);
         put_line_if_hit(
             alloc,
             text,
@@ -147,7 +149,8 @@ fn put_hit_lines<F: Finder, O: Sink>(
             patch,
             first,
             hunk,
-            shown.as_slice(),
+            shown,
+            own.as_slice(),
             finder,
             out,
         )?;
@@ -170,12 +173,13 @@ fn put_lines_if_asked<F: Finder, O: Sink>(
     requires lawful { IsLawfulChange text.now patch.now.change }
     requires placed { IsPlaced text.now patch.now.span.start patch.now.first_verdict patch.now }
     requires first { IsFirst (hits_of job.now.searched (test_of (F.view finder.old)) (change_of text.now patch.now.change)) (Some first) }
-    ensures { Finds O.view O.same_rest (F.view finder.old) (F.view finder.new) out.old out.new result (text_if (job.now.shown.hunks, chosen (hits_of job.now.searched (test_of (F.view finder.old)) (change_of text.now patch.now.change)) (hunk_lines text.now patch.now))) }
+    ensures { Finds O.view O.same_rest (F.view finder.old) (F.view finder.new) out.old out.new result (text_if (job.now.shown.hunks, chosen (hits_of job.now.searched (test_of (F.view finder.old)) (change_of text.now patch.now.change)) (hunk_lines job.now.shown.hunk_label.items text.now patch.now))) }
 {
     if !job.shown.hunks {
         return Ok(());
     }
-    put_hit_lines(alloc, text, job.searched, patch, first, finder, out)
+    let searched = job.searched;
+    put_hit_lines(alloc, text, searched, patch, first, &job.shown, finder, out)
 }
 
 /// Writes what is asked for of a file patch, counted from 0, whose first hunk with a hit is this.

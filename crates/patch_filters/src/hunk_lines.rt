@@ -15,6 +15,7 @@ use file_patch::FilePatch;
 use hunk_core::{Form, add_piece};
 use num_text::put_number;
 use outside::{Failed, Sink};
+use tool_words::Shown;
 
 /// Two numbers of 20 digits at most, two tabs, a word and a line feed.
 type Line = ArrayVec<u8, 64>;
@@ -72,16 +73,29 @@ pub fn hunk_feeds(text: &[u8], patch: &FilePatch, hunk: u32) -> u64
     count_feeds(bytes_at(text, span))
 }
 
+/// Writes the line of a hunk behind the name of its text, where that is shown.
+pub fn put_labelled<O: Sink>(shown: &Shown, line: &[u8], out: &mut O) -> Result<(), Failed>
+    ensures { Puts O.view O.same_rest out.old out.new result (shown.now.hunk_label.items ++ line.now) }
+{
+    put_piece(out, &shown.hunk_label)?;
+    put_piece(out, line)
+}
+
 /// Writes the lines of all hunks.
-pub fn put_hunk_lines<O: Sink>(text: &[u8], patch: &FilePatch, out: &mut O) -> Result<(), Failed>
+pub fn put_hunk_lines<O: Sink>(
+    shown: &Shown,
+    text: &[u8],
+    patch: &FilePatch,
+    out: &mut O,
+) -> Result<(), Failed>
     requires lawful { IsLawfulChange text.now patch.now.change }
     requires placed { IsPlaced text.now patch.now.span.start patch.now.first_verdict patch.now }
-    ensures { Puts O.view O.same_rest out.old out.new result (flat_map (λ line. line) (hunk_lines text.now patch.now)) }
+    ensures { Puts O.view O.same_rest out.old out.new result (flat_map (λ line. line) (hunk_lines shown.now.hunk_label.items text.now patch.now)) }
 {
     let mut line = first_line(patch);
     for hunk in 0..patch.hunks() {
-        let shown = hunk_line(line, u64::from(hunk) + 1);
-        put_piece(out, shown.as_slice())?;
+        let own = hunk_line(line, u64::from(hunk) + 1);
+        put_labelled(shown, own.as_slice(), out)?;
         line += hunk_feeds(text, patch, hunk);
     }
     Ok(())

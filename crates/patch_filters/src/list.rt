@@ -13,7 +13,7 @@ ghost use Rattle.filter_choice.specs.Outlined.{outlined};
 ghost use Rattle.patch_set.specs.PlainName.{plain_name};
 ghost use Rattle.patch_set.specs.SetView.{patch_at};
 ghost use Rattle.tool_words.specs.PlainJobs.{plain_list_job, plain_shown};
-ghost use Rattle.patch_filters.specs.Listed.{asks_hunks, front, has_no_line, is_gone, line_if_selected, lines_if_selected, listed, listed_whole, name_line, number_text, sign, sign_text};
+ghost use Rattle.patch_filters.specs.Listed.{asks_hunks, front, has_no_line, is_gone, line_if_selected, lines_if_selected, listed, listed_whole, name_line, number_text, own_line, sign, sign_text};
 
 use crate::hunk_lines::put_hunk_lines;
 use crate::pieces::put_piece;
@@ -132,6 +132,19 @@ pub fn put_name_line<O: Sink>(
 ) -> Result<(), Failed>
     ensures { (text : List ℕ) → IsLawfulPatch text patch.now → name.now ≡ plain_name (header_of text patch.now.header) → Puts O.view O.same_rest out.old out.new result (name_line (plain_shown shown.now) (patch_of text patch.now)) }
 {
+    put_piece(out, &shown.label)?;
+    put_own_line(shown, patch, name, out)
+}
+
+/// The same without the name of its text.
+fn put_own_line<O: Sink>(
+    shown: &Shown,
+    patch: &FilePatch,
+    name: &[u8],
+    out: &mut O,
+) -> Result<(), Failed>
+    ensures { (text : List ℕ) → IsLawfulPatch text patch.now → name.now ≡ plain_name (header_of text patch.now.header) → Puts O.view O.same_rest out.old out.new result (own_line (plain_shown shown.now) (patch_of text patch.now)) }
+{
     let front = front(shown, patch);
     put_piece(out, front.as_slice())?;
     put_piece(out, &shown.prefix)?;
@@ -155,7 +168,7 @@ fn put_if_selected<O: Sink>(
     put_name_line(&job.shown, &outline.patches()[patch], name, out)
 }
 
-/// Writes a line for each file patch whose name is selected: the number of the line of its names, if it is asked for, and
+/// Writes a line for each file patch whose name is selected: the name of the text, if that is shown; the number of the line of its names, if it is asked for, and
 /// a tab; a sign that says which side is no file, if that is asked for, and a space; and its name, as it is shown.
 pub fn list_patches<O: Sink>(outline: &Outline, job: &ListJob, out: &mut O) -> Result<(), Failed>
     ensures writes { Writes (O.view out.old) (O.view out.new) result (listed (plain_list_job job.now) (outlined outline.now)) }
@@ -193,7 +206,7 @@ fn put_whole_if_selected<O: Sink>(
     if !job.shown.hunks {
         return Ok(());
     }
-    put_hunk_lines(set.text(), found, out)
+    put_hunk_lines(&job.shown, set.text(), found, out)
 }
 
 /// Writes for each file patch whose name is selected the same line, and one for each of its hunks, if these are asked for: behind

@@ -20,12 +20,9 @@ use Rattle.patch_cli.specs.Command.{command}
 use Rattle.patch_cli.specs.Worlds.{World, TellsFiles, TellsLeft, reads_source, uses_scratch}
 use Rattle.patch_cli.specs.Worlds as patch_worlds
 use Rattle.patch_cli.specs.Carries.{Carries, NoneFailed, IsComplete}
-use Rattle.filter_cli.specs.Jobs.{AsksFor, HasPattern, ReadsSource}
-use Rattle.filter_cli.specs.Jobs as filter_jobs
-use Rattle.filter_cli.specs.Command.{Searches}
-use Rattle.filter_cli.specs.Worlds.{Tells}
-use Rattle.filter_cli.specs.Worlds as filter_worlds
-use Rattle.filter_cli.specs.Carries as filter
+use Rattle.filter_cli.specs.InTurn.{CallRuns, InTurn}
+use Rattle.filter_cli.specs.InTurn as turns
+use Rattle.tool_words.specs.Calls.{calls_of}
 use Rattle.gen_cli.specs.Jobs as gen_jobs
 use Rattle.gen_cli.specs.Carries as gen
 use Rattle.stack_cli.specs.Jobs as stack_jobs
@@ -58,17 +55,9 @@ pub record RunsPatch {T C F I O : Type 0} (words : List (List ℕ)) (u w : World
   pub input : reads_source (job_of words) ≡ false → e.input ≡ d.input
   pub finder : e.finder ≡ d.finder
 
--- what `filter_cli` promises of the filters; the scratch isn't touched, and there is no receipt
-pub record RunsFilter {T C F I O : Type 0} (words : List (List ℕ)) (u w : filter_worlds.World) (d e : Devices T C F I O) (why : Why) (applied : Option Receipt) : Type 0 where
-  pub carries : filter.Carries (filter_jobs.job_of words) u w why
-  -- words that give no job are answered before any device is called
-  pub words_first : (fault : WordFault) → filter_jobs.job_of words ≡ Err fault → (why ≡ of_words fault) ⊎ (why ≡ Memory)
-  pub still : (fault : WordFault) → filter_jobs.job_of words ≡ Err fault → e.tree ≡ d.tree
-  pub silent : (fault : WordFault) → filter_jobs.job_of words ≡ Err fault → e.out ≡ d.out
-  pub input : (ReadsSource (filter_jobs.job_of words) → ⊥) → e.input ≡ d.input
-  -- the finder isn't asked where there is no pattern, or where the text is told to have no file patches to search
-  pub unasked : (f : Files) (left : List ℕ) → Tells (filter_jobs.job_of words) u f left → (AsksFor (filter_jobs.job_of words) (λ j. Searches j f left) → ⊥) → e.finder ≡ d.finder
-  pub no_pattern : (AsksFor (filter_jobs.job_of words) HasPattern → ⊥) → e.finder ≡ d.finder
+-- what `filter_cli` promises of the filters, call by call; the scratch isn't touched, and there is no receipt
+pub record RunsFilter {T C F I O : Type 0} (tree : T → TreeView) (finder : F → FinderView) (input : I → SourceView) (out : O → SinkView) (words : List (List ℕ)) (d e : Devices T C F I O) (why : Why) (applied : Option Receipt) : Type 0 where
+  pub calls : InTurn (CallRuns tree finder input out) (calls_of words) (turns.devices d.tree d.finder d.input d.out) (turns.devices e.tree e.finder e.input e.out) why
   pub scratch : e.scratch ≡ d.scratch
   pub no_receipt : applied ≡ None
 
@@ -101,7 +90,7 @@ abbrev pub PatchRuns : {T C F I O : Type 0} → (T → TreeView) → (C → Scra
 PatchRuns tree scratch input out words d e exit = RunsPatch words (patch_worlds.world (tree d.tree) (scratch d.scratch) (input d.input) (out d.out)) (patch_worlds.world (tree e.tree) (scratch e.scratch) (input e.input) (out e.out)) d e exit.why exit.applied
 
 abbrev pub FilterRuns : {T C F I O : Type 0} → (T → TreeView) → (F → FinderView) → (I → SourceView) → (O → SinkView) → List (List ℕ) → Devices T C F I O → Devices T C F I O → Exit → Type 0
-FilterRuns tree finder input out words d e exit = RunsFilter words (filter_worlds.world (tree d.tree) (finder d.finder) (input d.input) (out d.out)) (filter_worlds.world (tree e.tree) (finder e.finder) (input e.input) (out e.out)) d e exit.why exit.applied
+FilterRuns tree finder input out words d e exit = RunsFilter tree finder input out words d e exit.why exit.applied
 
 abbrev pub GenRuns : {T C F I O : Type 0} → (T → TreeView) → (C → ScratchView) → (O → SinkView) → List (List ℕ) → Devices T C F I O → Devices T C F I O → Exit → Type 0
 GenRuns tree scratch out words d e exit = RunsGen words (worlds.world (tree d.tree) (scratch d.scratch) (out d.out)) (worlds.world (tree e.tree) (scratch e.scratch) (out e.out)) d e exit.why exit.applied

@@ -14,7 +14,7 @@ ghost use Rattle.patchkit.specs.Runs.{devices, FilterRuns, GenRuns, PatchRuns, S
 ghost use Rattle.patchkit.specs.declared.kind.Kind.TheVariants.{Filter, Gen, Patch, Stack};
 
 use crate::kind::{Kind, kind_of};
-use filter_cli::run_filter;
+use filter_cli::run_filters;
 use gen_cli::run_words;
 use outside::{Finder, Scratch, Sink, Source, Tree};
 use patch_run::Exit;
@@ -77,7 +77,7 @@ fn run_sifting<T: Tree, C: Scratch, F: Finder, I: Source, O: Sink, E: Sink>(
     ensures err_still { is_ended result.0.why ≡ true → err.new ≡ err.old }
     ensures err_rest { E.same_rest err.old err.new }
 {
-    let exit = exit_of(run_filter(alloc, words, tree, finder, input, out));
+    let exit = exit_of(run_filters(alloc, words, tree, finder, input, out));
     let _reported = report(err, words, exit.why);
     (exit, scratch)
 }

@@ -2,10 +2,20 @@
 
 use crate::lines::{Lines, Part};
 use regex_syntax::{Config, ErrorKind, parse};
-use tool_words::{ToolJob, read_tool_words};
+use tool_words::{ToolJob, calls_of, read_tool_words};
 
-/// The pattern of the words and what is wrong with it. It was refused: so one that can be read is too big.
+/// The pattern of the words and what is wrong with it. It was refused: so one that can be read is too big. With several FILEs it is that
+/// of each call.
 pub fn put_pattern(lines: &mut Lines, tool: &str, words: &[String]) {
+    if let Ok(calls) = calls_of(lines.alloc, words) {
+        if let [call, ..] = calls.as_slice() {
+            put_in(lines, tool, call);
+        }
+        drop(calls);
+    }
+}
+
+fn put_in(lines: &mut Lines, tool: &str, words: &[String]) {
     if let Ok(job) = read_tool_words(lines.alloc, words) {
         put_of(lines, tool, &job);
         drop(job);

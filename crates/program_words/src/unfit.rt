@@ -3,7 +3,7 @@
 use crate::lines::Lines;
 use patch_options::read_words;
 use std::alloc::{AllocError, Global};
-use tool_words::read_tool_words;
+use tool_words::{calls_of, read_tool_words};
 
 /// Values that options take, with none first.
 const VALUES: [&str; 11] = [
@@ -85,7 +85,18 @@ pub fn added(alloc: Global, words: &mut Vec<String>, word: &str) -> Result<(), A
     Ok(())
 }
 
-/// Whether the words give a command. What it is goes in `err`, and so isn't owned here.
+/// Whether the words give a command, or with several FILEs a command for each. What it is goes in `err`, and so isn't owned here.
 pub fn is_command(alloc: Global, words: &[String]) -> bool {
-    read_words(alloc, words).err().is_none() || read_tool_words(alloc, words).err().is_none()
+    read_words(alloc, words).err().is_none() || are_calls(alloc, words)
+}
+
+fn are_calls(alloc: Global, words: &[String]) -> bool {
+    let Ok(calls) = calls_of(alloc, words) else {
+        return false;
+    };
+    let mut are = true;
+    for call in &calls {
+        are = are && read_tool_words(alloc, call).err().is_none();
+    }
+    are
 }

@@ -4,3 +4,4 @@ pub mod Selection
 pub mod Lawful
 pub mod Making
 pub mod Reading
+pub mod Calling

@@ -105,7 +105,7 @@ is_searched text = is_some (searched_of text)
 
 -- words that only names have
 abbrev pub shows_names : List Row → Bool
-shows_names rows = is_used rows (codes "line-number") || is_one_given rows (codes "strip") (codes "addprefix")
+shows_names rows = (is_used rows (codes "line-number") || is_used rows (codes "with-filename")) || is_one_given rows (codes "strip") (codes "addprefix")
 
 -- names are shown, or hunks or file patches are written
 abbrev pub is_one_kind : List Row → Bool

@@ -6,3 +6,5 @@ pub mod Selecting
 pub mod Showing
 pub mod Asked
 pub mod Words
+pub mod Operands
+pub mod Calls

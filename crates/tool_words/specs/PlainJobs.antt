@@ -42,6 +42,8 @@ pub record PlainShown : Type 0 where
   pub empty_absent : Bool
   pub strip : ℕ
   pub prefix : List ℕ
+  pub label : List ℕ
+  pub hunk_label : List ℕ
 
 -- a list; each field is that of `ListJob`
 pub record PlainListJob : Type 0 where
@@ -110,7 +112,7 @@ abbrev pub plain_ranges : Option Ranges → Option PlainRanges
 plain_ranges ranges = option_map (λ r. r.items.items) ranges
 
 abbrev pub plain_shown : Shown → PlainShown
-plain_shown s = record { numbers = s.numbers; hunks = s.hunks; status = s.status; empty_absent = s.empty_absent; strip = s.strip; prefix = s.prefix.items }
+plain_shown s = record { numbers = s.numbers; hunks = s.hunks; status = s.status; empty_absent = s.empty_absent; strip = s.strip; prefix = s.prefix.items; label = s.label.items; hunk_label = s.hunk_label.items }
 
 abbrev pub plain_list_job : ListJob → PlainListJob
 plain_list_job j = record { input = j.input; select = plain_select j.select; shown = plain_shown j.shown }

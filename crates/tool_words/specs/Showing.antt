@@ -1,6 +1,6 @@
 -- How a list shows file patches, over what `clap` matched.
-use Rattle.std.specs.Prelude.{ℕ, List, [], codes, Bool, ◌&&◌, ◌||◌, if◌then◌else◌, is_some, unwrap_or}
-use Rattle.clap.specs.Words.{Row}
+use Rattle.std.specs.Prelude.{ℕ, List, [], ◌++◌, codes, Bool, not, ◌&&◌, ◌||◌, if◌then◌else◌, bytes_eq, Option, None, Some, is_some, unwrap_or}
+use Rattle.clap.specs.Words.{Row, Text}
 use Rattle.patch_options.specs.Table.{is_used, value_of, has_form}
 use Rattle.tool_words.specs.PlainJobs.{PlainShown}
 use Rattle.tool_words.specs.Selecting.{is_number, number_or_0}
@@ -23,6 +23,19 @@ shown_strip rows = if is_some (value_of rows (codes "strip")) || has_patterns ro
 abbrev pub shows_hunks : List Row → Bool
 shows_hunks rows = is_used rows (codes "line-number") && is_used rows (codes "verbose")
 
+-- the FILE that is read, in the words of a list
+abbrev pub file_shown : Option Text → List ℕ
+file_shown None = codes "(standard input)"
+file_shown (Some text) = if bytes_eq text (codes "-") then codes "(standard input)" else text
+
+-- it is shown by one word, unless another one says never
+abbrev pub shows_file : List Row → Bool
+shows_file rows = is_used rows (codes "with-filename") && not (is_used rows (codes "no-filename"))
+
+-- it and a mark, where it is shown
+abbrev pub label_of : List Row → List ℕ → List ℕ
+label_of rows mark = if shows_file rows then file_shown (value_of rows (codes "file")) ++ mark else []
+
 abbrev pub shown_of : List Row → Bool → PlainShown
 shown_of rows empty_absent = record {
   numbers = is_used rows (codes "line-number");
@@ -31,4 +44,6 @@ shown_of rows empty_absent = record {
   empty_absent = empty_absent;
   strip = shown_strip rows;
   prefix = unwrap_or (value_of rows (codes "addprefix")) [];
+  label = label_of rows (codes ":");
+  hunk_label = label_of rows (codes "-");
 }

@@ -19,9 +19,9 @@ input_table = operand (codes "file") ∷ []
 abbrev pub subject_table : List PlainWord
 subject_table = long_switch (codes "skip-binary") ∷ input_table
 
--- how file patches are shown: s 115, n 110, v 118
+-- how file patches are shown: s 115, n 110, v 118, H 72, h 104
 abbrev pub shown_words : List PlainWord
-shown_words = switch 115 (codes "status") ∷ switch 110 (codes "line-number") ∷ switch 118 (codes "verbose") ∷ named (codes "strip") ∷ named (codes "addprefix") ∷ []
+shown_words = switch 115 (codes "status") ∷ switch 110 (codes "line-number") ∷ switch 118 (codes "verbose") ∷ switch 72 (codes "with-filename") ∷ switch 104 (codes "no-filename") ∷ named (codes "strip") ∷ named (codes "addprefix") ∷ []
 
 -- E 69
 abbrev pub list_table : List PlainWord

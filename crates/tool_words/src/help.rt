@@ -23,25 +23,25 @@ pub fn usage(alloc: Global, tool: Tool) -> Result<String, AllocError>
 fn front(tool: Tool) -> &'static str {
     match tool {
         Tool::Lsdiff => {
-            "Usage: lsdiff [OPTION]... [FILE]\n\
-            Lists the file patches of a patch text by their names.\n"
+            "Usage: lsdiff [OPTION]... [FILE]...\n\
+            Lists the file patches of patch texts by their names.\n"
         }
         Tool::Filterdiff => {
-            "Usage: filterdiff [OPTION]... [FILE]\n\
-            Writes the file patches and hunks of a patch text that are meant.\n\
+            "Usage: filterdiff [OPTION]... [FILE]...\n\
+            Writes the file patches and hunks of patch texts that are meant.\n\
             A RANGE has items N, N-M, N- or -M, with commas between them.\n"
         }
         Tool::Grepdiff => {
-            "Usage: grepdiff [OPTION]... REGEX [FILE]\n\
-            Finds the file patches of a patch text that have a line with a match.\n"
+            "Usage: grepdiff [OPTION]... REGEX [FILE]...\n\
+            Finds the file patches of patch texts that have a line with a match.\n"
         }
         Tool::Splitdiff => {
             "Usage: splitdiff [OPTION]... FILE\n\
             Cuts a patch text into the files FILE.part001, FILE.part002 and so on.\n"
         }
         Tool::Recountdiff => {
-            "Usage: recountdiff [FILE]\n\
-            Makes the counts of the hunks of a unified patch text true.\n"
+            "Usage: recountdiff [FILE]...\n\
+            Makes the counts of the hunks of unified patch texts true.\n"
         }
         Tool::Patchgen => {
             "Usage: patchgen [OPTION]... SEED FILES LINES\n\

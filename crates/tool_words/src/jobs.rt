@@ -44,6 +44,10 @@ pub struct Shown {
     pub strip: u32,
     /// What is printed in front of a name.
     pub prefix: Vec<u8>,
+    /// What stands in front of the line of a file patch: the name of its text, if that is shown.
+    pub label: Vec<u8>,
+    /// The same in front of the line of a hunk.
+    pub hunk_label: Vec<u8>,
 }
 
 /// One command of `lsdiff`.

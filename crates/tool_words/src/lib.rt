@@ -1,16 +1,20 @@
 //! The words of the tools beside `patch`: what each tool takes, what its words ask for, and the text that tells them.
 #![tactic(auto)]
 
+mod calls;
 mod help;
 mod jobs;
+mod operands;
 mod ranges;
 mod readers;
+mod rows;
 mod selecting;
 mod showing;
 mod tables;
 mod tools;
 mod words;
 
+pub use calls::calls_of;
 pub use help::usage;
 pub use jobs::{
     FilterJob, GenJob, GrepJob, GrepOut, ListJob, Ranges, Searched, Select, Shown, SplitJob,

@@ -196,7 +196,8 @@ fn is_one_kind(matches: &ArgMatches<'_>) -> bool
 fn shows_names(matches: &ArgMatches<'_>) -> bool
     ensures { result ≡ shows_names (rows_in matches.now) }
 {
-    is_used(matches, "line-number") || is_one_given(matches, "strip", "addprefix")
+    (is_used(matches, "line-number") || is_used(matches, "with-filename"))
+        || is_one_given(matches, "strip", "addprefix")
 }
 
 /// Which lines are searched, if the word for it is lawful; all where there is no word.

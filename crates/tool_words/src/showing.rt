@@ -5,7 +5,7 @@ ghost use Rattle.patch_options.specs.Table.{text_of, value_of};
 ghost use Rattle.tool_words.specs.Asked.{is_list};
 ghost use Rattle.tool_words.specs.PlainJobs.{plain_select, plain_shown};
 ghost use Rattle.tool_words.specs.Selecting.{input_in, select_of};
-ghost use Rattle.tool_words.specs.Showing.{has_patterns, is_shown, shown_of, shown_strip, shows_hunks};
+ghost use Rattle.tool_words.specs.Showing.{file_shown, has_patterns, is_shown, label_of, shown_of, shown_strip, shows_file, shows_hunks};
 
 use crate::selecting::{is_given, is_one_given, number_or_0, read_subject};
 use crate::{ListJob, Shown};
@@ -53,6 +53,21 @@ fn read_shown(
         return Err(WordFault::Usage);
     }
     let prefix = text_or_none(alloc, value_of(matches, "addprefix"))?;
+    let label = match label_of(alloc, matches, b":") {
+        Ok(label) => label,
+        Err(_) => {
+            drop(prefix);
+            return Err(WordFault::Memory);
+        }
+    };
+    let hunk_label = match label_of(alloc, matches, b"-") {
+        Ok(label) => label,
+        Err(_) => {
+            drop(prefix);
+            drop(label);
+            return Err(WordFault::Memory);
+        }
+    };
     Ok(Shown {
         numbers: is_used(matches, "line-number"),
         hunks: shows_hunks(matches),
@@ -60,7 +75,46 @@ fn read_shown(
         empty_absent,
         strip: shown_strip(matches),
         prefix,
+        label,
+        hunk_label,
     })
+}
+
+/// The name of the text and a mark, where it is shown.
+fn label_of(alloc: Global, matches: &ArgMatches<'_>, mark: &[u8]) -> Result<Vec<u8>, AllocError>
+    ensures { IfOk result (λ label. label.items ≡ label_of (rows_in matches.now) mark.now) }
+{
+    if shows_file(matches) {
+        let mut label = file_shown(value_of(matches, "file"))
+            .as_bytes()
+            .to_vec(alloc)?;
+        label.extend_from_slice(mark)?;
+        return Ok(label);
+    }
+    Ok(Vec::new(alloc))
+}
+
+/// Whether the name of the text is shown.
+fn shows_file(matches: &ArgMatches<'_>) -> bool
+    ensures { result ≡ shows_file (rows_in matches.now) }
+{
+    is_used(matches, "with-filename") && !is_used(matches, "no-filename")
+}
+
+/// The text that is read, in the words of a list.
+fn file_shown<'a>(file: Option<&'a str>) -> &'a str
+    ensures { result.now ≡ file_shown (text_of file.entry) }
+{
+    match file {
+        Some(text) => {
+            if text == "-" {
+                "(standard input)"
+            } else {
+                text
+            }
+        }
+        None => "(standard input)",
+    }
 }
 
 /// The bytes of a text, or none where there is no text.

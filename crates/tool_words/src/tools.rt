@@ -65,7 +65,7 @@ impl Tool {
             Tool::Splitdiff => tables::split_table(),
             Tool::Recountdiff => tables::input_table(),
             Tool::Patchgen => tables::gen_table(),
-            Tool::Reversediff => tables::input_table(),
+            Tool::Reversediff => tables::flip_table(),
             Tool::Patchstack => tables::stack_table(),
         }
     }

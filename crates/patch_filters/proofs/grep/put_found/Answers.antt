@@ -37,7 +37,7 @@ returns-in_err-put_name_line-in-Names g c = λ p is.
     by-output (test_of w) j text p c.args.job.now.output Names c.in-Names.is
     (subst (λ (q : FilePatch). Finds g.O.Sink.view g.O.Sink.same_rest w w c.args.out.now c.put_name_line.new.out c.from_residual.result (found_text (test_of w) Names j text q)) same
     (ends-in c.from_residual.result Write c.from_residual.ensures.1
-    (finds-stop Write (text_if (j.shown.hunks, chosen (hits_of j.searched (test_of w) (change_of text found.change)) (hunk_lines text found))) (finds-write {R = Unit {0}} c.in_err-put_name_line-in-Names.field-0.0 (asked-none w) line))))
+    (finds-stop Write (text_if (j.shown.hunks, chosen (hits_of j.searched (test_of w) (change_of text found.change)) (hunk_lines j.shown.hunk_label text found))) (finds-write {R = Unit {0}} c.in_err-put_name_line-in-Names.field-0.0 (asked-none w) line))))
 
 pub returns-in_ok-put_name_line-in-Names : goal.returns-in_ok-put_name_line-in-Names
 returns-in_ok-put_name_line-in-Names g c = λ p is.
@@ -47,7 +47,7 @@ returns-in_ok-put_name_line-in-Names g c = λ p is.
     let found = c.patch_at-found.result.now in
     let same : found ≡ p = same_Some found p (sym c.patch_at-found.ensures.is ∙ is) in
     let line = c.in_ok-put_name_line-in-Names.ensures text c.patch_at-found.ensures.lawful (c.plain_name.ensures found c.patch_at-found.ensures.is) in
-    let more = subst (λ t. Finds g.O.Sink.view g.O.Sink.same_rest w (g.F.Finder.view c.put_lines_if_asked.new.finder) c.put_name_line.new.out c.put_lines_if_asked.new.out c.put_lines_if_asked.result (text_if (j.shown.hunks, chosen (hits_of j.searched (test_of w) (change_of t found.change)) (hunk_lines t found)))) c.text-text.ensures c.put_lines_if_asked.ensures in
+    let more = subst (λ t. Finds g.O.Sink.view g.O.Sink.same_rest w (g.F.Finder.view c.put_lines_if_asked.new.finder) c.put_name_line.new.out c.put_lines_if_asked.new.out c.put_lines_if_asked.result (text_if (j.shown.hunks, chosen (hits_of j.searched (test_of w) (change_of t found.change)) (hunk_lines j.shown.hunk_label t found)))) c.text-text.ensures c.put_lines_if_asked.ensures in
     by-output (test_of w) j text p c.args.job.now.output Names c.in-Names.is
     (subst (λ (q : FilePatch). Finds g.O.Sink.view g.O.Sink.same_rest w (g.F.Finder.view c.put_lines_if_asked.new.finder) c.args.out.now c.put_lines_if_asked.new.out c.put_lines_if_asked.result (found_text (test_of w) Names j text q)) same
     (finds-more c.put_lines_if_asked.result g.met.O.Sink.rest_both (record { finder = asked-none w; put = has-put c.in_ok-put_name_line-in-Names.field-0 line }) more))

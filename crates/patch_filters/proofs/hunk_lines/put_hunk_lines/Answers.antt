@@ -1,4 +1,4 @@
-use Rattle.std.proofs.Common.{rules, ◌≡◌, ◌+◌, ◌<◌, ◌≤◌, List, [], length, get_or, Ok, Err, sym, ap, subst, ◌∙◌, arith}
+use Rattle.std.proofs.Common.{rules, ◌≡◌, ◌+◌, ◌<◌, ◌≤◌, List, [], ◌++◌, length, get_or, Ok, Err, sym, ap, subst, ◌∙◌, arith}
 use Rattle.std.proofs.lemmas.Result.{err_from_is_err_and}
 use Rattle.outside.specs.Puts.{Puts}
 use Rattle.outside.proofs.SinkSteps.{has-none}
@@ -15,37 +15,41 @@ loop-hunk-init g c = (has-none g.met.O.Sink.rest_none c.args.out.now, c.first_li
 
 pub loop-hunk-preserved : goal.loop-hunk-preserved
 loop-hunk-preserved g c =
+    let label = c.args.shown.now.hunk_label.items in
     let text = c.args.text.now in
     let p = c.args.patch.now in
     let i = c.loop-hunk.hunk in
     let lt : i < length p.hunk_spans.items = omega (arith, c.loop-hunk-test.true, c.hunks-hunk-end.ensures text, rows-counted text p.change, c.requires.placed.each) in
-    let put = subst (Puts {R = Unit {0}} g.O.Sink.view g.O.Sink.same_rest c.loop-hunk.out c.put_piece.new.out (Ok c.in_ok-put_piece.field-0)) (c.as_slice.ensures.value ∙ c.hunk_line-shown.ensures ∙ ap (λ n. hunk_line c.loop-hunk.line (n + 1)) c.from.ensures) c.in_ok-put_piece.ensures in (
-      goes-on (λ line. line) (hunk_lines text p) g.met.O.Sink.rest_both i (hunk_line c.loop-hunk.line (i + 1)) c.in_ok-put_piece.field-0 (omega (arith, lt, hunk-lines-long text p)) (shown-at text p i c.loop-hunk.line lt c.loop-hunk.invariant.1) c.loop-hunk.invariant.0 put,
+    let put = subst (Puts {R = Unit {0}} g.O.Sink.view g.O.Sink.same_rest c.loop-hunk.out c.put_labelled.new.out (Ok c.in_ok-put_labelled.field-0)) (ap (λ l. label ++ l) (c.as_slice.ensures.value ∙ c.hunk_line-own.ensures ∙ ap (λ n. hunk_line c.loop-hunk.line (n + 1)) c.from.ensures)) c.in_ok-put_labelled.ensures in (
+      goes-on (λ line. line) (hunk_lines label text p) g.met.O.Sink.rest_both i (label ++ hunk_line c.loop-hunk.line (i + 1)) c.in_ok-put_labelled.field-0 (omega (arith, lt, hunk-lines-long text p label)) (shown-at text p label i c.loop-hunk.line lt c.loop-hunk.invariant.1) c.loop-hunk.invariant.0 put,
       line-next text p i c.loop-hunk.line c.hunk_feeds-line.result lt c.loop-hunk.invariant.1 c.hunk_feeds-line.ensures,
     )
 
-pub returns-in_err-put_piece : goal.returns-in_err-put_piece
-returns-in_err-put_piece g c =
+pub returns-in_err-put_labelled : goal.returns-in_err-put_labelled
+returns-in_err-put_labelled g c =
+    let label = c.args.shown.now.hunk_label.items in
     let text = c.args.text.now in
     let p = c.args.patch.now in
     let i = c.loop-hunk.hunk in
     let lt : i < length p.hunk_spans.items = omega (arith, c.loop-hunk-test.true, c.hunks-hunk-end.ensures text, rows-counted text p.change, c.requires.placed.each) in
     let q = err_from_is_err_and c.from_residual.result c.from_residual.ensures.1 in
-    let put = subst (Puts {R = Unit {0}} g.O.Sink.view g.O.Sink.same_rest c.loop-hunk.out c.put_piece.new.out (Err c.in_err-put_piece.field-0.0)) (c.as_slice.ensures.value ∙ c.hunk_line-shown.ensures ∙ ap (λ n. hunk_line c.loop-hunk.line (n + 1)) c.from.ensures) c.in_err-put_piece.ensures in
-    rw q.1 (stops (λ line. line) (hunk_lines text p) g.met.O.Sink.rest_both i (hunk_line c.loop-hunk.line (i + 1)) c.in_err-put_piece.field-0.0 q.0 (omega (arith, lt, hunk-lines-long text p)) (shown-at text p i c.loop-hunk.line lt c.loop-hunk.invariant.1) c.loop-hunk.invariant.0 put)
+    let put = subst (Puts {R = Unit {0}} g.O.Sink.view g.O.Sink.same_rest c.loop-hunk.out c.put_labelled.new.out (Err c.in_err-put_labelled.field-0.0)) (ap (λ l. label ++ l) (c.as_slice.ensures.value ∙ c.hunk_line-own.ensures ∙ ap (λ n. hunk_line c.loop-hunk.line (n + 1)) c.from.ensures)) c.in_err-put_labelled.ensures in
+    rw q.1 (stops (λ line. line) (hunk_lines label text p) g.met.O.Sink.rest_both i (label ++ hunk_line c.loop-hunk.line (i + 1)) c.in_err-put_labelled.field-0.0 q.0 (omega (arith, lt, hunk-lines-long text p label)) (shown-at text p label i c.loop-hunk.line lt c.loop-hunk.invariant.1) c.loop-hunk.invariant.0 put)
 
 pub returns : goal.returns
 returns g c =
+    let label = c.args.shown.now.hunk_label.items in
     let text = c.args.text.now in
     let p = c.args.patch.now in
-    let end : c.loop-hunk.hunk ≡ length (hunk_lines text p) = omega (arith, c.loop-hunk-test.false, c.loop-hunk.auto.hunk-end, c.hunks-hunk-end.ensures text, rows-counted text p.change, c.requires.placed.each, hunk-lines-long text p) in
-    ends (λ line. line) (hunk_lines text p) g.met.O.Sink.rest_both c.loop-hunk.hunk _ end c.loop-hunk.invariant.0
+    let end : c.loop-hunk.hunk ≡ length (hunk_lines label text p) = omega (arith, c.loop-hunk-test.false, c.loop-hunk.auto.hunk-end, c.hunks-hunk-end.ensures text, rows-counted text p.change, c.requires.placed.each, hunk-lines-long text p label) in
+    ends (λ line. line) (hunk_lines label text p) g.met.O.Sink.rest_both c.loop-hunk.hunk _ end c.loop-hunk.invariant.0
 
 pub hunks-hunk-end-requires : goal.hunks-hunk-end-requires
 hunks-hunk-end-requires g c = few-rows c.args.text.now c.args.patch.now.change c.requires.lawful
 
 pub overflow_add-line : goal.overflow_add-line
 overflow_add-line g c =
+    let label = c.args.shown.now.hunk_label.items in
     let text = c.args.text.now in
     let p = c.args.patch.now in
     let i = c.loop-hunk.hunk in

@@ -30,7 +30,7 @@ returns-in_err-put_name_line g c = λ p is.
     let listed_so : is_listed j (patch_of text p) ≡ true = sym (c.is_selected.ensures ∙ ap (is_selected j.select) (c.plain_name-name.ensures p is)) ∙ c.if-not-is_selected.false in
     let e = err_from_is_err_and c.from_residual.result c.from_residual.ensures.1 in
     rw (e.1, listed_so) (subst (λ (x : FilePatch). Puts {R = Unit {0}} g.O.Sink.view g.O.Sink.same_rest c.args.out.now c.put_name_line.new.out (Err e.0) (list_lines j text x)) same
-    (puts-stop c.in_err-put_name_line.field-0.0 e.0 (text_if (j.shown.hunks, flat_map (λ line. line) (hunk_lines text q)))
+    (puts-stop c.in_err-put_name_line.field-0.0 e.0 (text_if (j.shown.hunks, flat_map (λ line. line) (hunk_lines j.shown.hunk_label text q)))
     (c.in_err-put_name_line.ensures text c.patch_at-found.ensures.lawful (c.plain_name-name.ensures q c.patch_at-found.ensures.is))))
 
 pub returns-then-not-job : goal.returns-then-not-job
@@ -52,7 +52,7 @@ returns g c = λ p is.
     let same : q ≡ p = same_Some q p (sym c.patch_at-found.ensures.is ∙ is) in
     let listed_so : is_listed j (patch_of text p) ≡ true = sym (c.is_selected.ensures ∙ ap (is_selected j.select) (c.plain_name-name.ensures p is)) ∙ c.if-not-is_selected.false in
     let put = has-put c.in_ok-put_name_line.field-0 (c.in_ok-put_name_line.ensures text c.patch_at-found.ensures.lawful (c.plain_name-name.ensures q c.patch_at-found.ensures.is)) in
-    let more = subst (λ t. Puts g.O.Sink.view g.O.Sink.same_rest c.put_name_line.new.out c.put_hunk_lines.new.out c.put_hunk_lines.result (flat_map (λ line. line) (hunk_lines t q))) c.text.ensures c.put_hunk_lines.ensures in
+    let more = subst (λ t. Puts g.O.Sink.view g.O.Sink.same_rest c.put_name_line.new.out c.put_hunk_lines.new.out c.put_hunk_lines.result (flat_map (λ line. line) (hunk_lines j.shown.hunk_label t q))) c.text.ensures c.put_hunk_lines.ensures in
     rw listed_so (subst (λ (x : FilePatch). Puts g.O.Sink.view g.O.Sink.same_rest c.args.out.now c.put_hunk_lines.new.out c.put_hunk_lines.result (list_lines j text x)) same
     (rw c.if-not-job.false (puts-more g.met.O.Sink.rest_both put more)))
 

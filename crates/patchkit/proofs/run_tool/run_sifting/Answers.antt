@@ -7,13 +7,7 @@ use Rattle.patchkit.proofs.run_tool.run_sifting.Goals as goal
 
 pub returns-clause-runs : goal.returns-clause-runs
 returns-clause-runs g c = runs_as c.exit_of-exit.result.why c.exit_of-exit.result.applied c.exit_of-exit.ensures.why c.exit_of-exit.ensures.applied (record {
-  carries = c.run_filter.ensures.carries;
-  words_first = c.run_filter.ensures.words;
-  still = c.run_filter.ensures.still;
-  silent = c.run_filter.ensures.silent;
-  input = c.run_filter.ensures.unread;
-  unasked = c.run_filter.ensures.unasked;
-  no_pattern = c.run_filter.ensures.no_pattern;
+  calls = c.run_filters.ensures.runs;
   scratch = refl;
   no_receipt = refl;
 })

@@ -30,6 +30,8 @@ returns c = record {
     empty_absent = c.args.empty_absent;
     strip = c.shown_strip.ensures i;
     prefix = (c.in_ok-prefix.ensures ∙ ap (λ (text : Option Text). unwrap_or text []) c.value_of-2.ensures) i;
+    label = c.in-Ok.ensures i;
+    hunk_label = c.in-Ok-label_of.ensures i;
   };
   lawful = ap (has_form is_number) (sym c.value_of.ensures) ∙ (sym c.is_number.ensures ∙ c.if-not-is_number.false);
   refused = tt;
