@@ -87,11 +87,11 @@ def modes_of_moved(case, _gnu, _ours, differences):
 
 @REASONS.of("git-links")
 def links(case, _gnu, _ours, differences):
-    """A link that git makes, changes, moves or takes away, and the status with it."""
+    """A link that is renamed or copied, of which no line gives the mode, and the status with it."""
     there = {name for name, entry in case.tree.items() if entry.kind == "link"}
     parts = parts_of(case)
     moved = all_names(part for part in moves_of(parts) if part.names & there)
-    return of_names(differences, names_of(parts, "link") | moved)
+    return of_names(differences, moved)
 
 
 @REASONS.of("name-bytes")

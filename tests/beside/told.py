@@ -76,7 +76,7 @@ tell("mangled-context", {b"f": b"1\n2\n"}, b"*** f\n--- f\n**************\n*** 1
 tell("headerless-hunks", {b"f": b"a\n"}, ONE + b"some text\n@@ -1 +1 @@\n-b\n+c\n")
 tell("git-hunks-alone", {b"f": b"a\n"}, git(b"g", b"rename from f\nrename to g\n@@ -1 +1 @@\n-a\n+b\n", b"f"), "-p1")
 tell("renamed-already", {b"g": b"a\n"}, git(b"g", b"similarity index 100%\nrename from f\nrename to g\n", b"f"), "-p1")
-tell("git-links", {}, git(b"l", b"new file mode 120000\n--- /dev/null\n+++ b/l\n@@ -0,0 +1 @@\n+f\n\\ No newline at end of file\n"), "-p1")
+tell("git-links", {b"l": Entry("link", b"f")}, git(b"m", b"similarity index 100%\nrename from l\nrename to m\n", b"l"), "-p1")
 tell("in-the-way", {b"f/x": b"a\n"}, MADE)
 tell("links-on-the-way", {b"d": Entry("dir"), b"d/f": Entry(data=b"a\n"), b"l": Entry("link", b"d")}, ONE.replace(b" f\n", b" l/f\n"))
 tell("long-lines", {b"f": b"a\n" + b"x" * 1_100_000 + b"\n"}, ONE)

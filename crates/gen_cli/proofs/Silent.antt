@@ -22,7 +22,8 @@ use Rattle.patch_set.specs.Skipped.{skipped_changes}
 use Rattle.say_text.specs.Messages.{silenced, reversed_line, not_deleting_line, failures_line}
 use Rattle.file_patch.specs.declared.derived.Target.{Target}
 use Rattle.say_text.specs.declared.standing.Standing.{Standing}
-use Rattle.patch_run.specs.OnePatch.{Item, PlainTurn, Tried, hunk_said, hunks_said, script_said, change_said, Start, skips, refuses, tries, Ending, ended, stopped, said_first, skips_at, lines_in, first_hunk, is_reversed, turns_round, on_direction, lacks_word, prereq_said, on_prereq, refusal_of, refused_or, on_taking, unfit, unfit_said, on_misfit, is_forced, on_fitting, on_file, patching_said, on_target, on_choice, choice_of, is_first, changes_said, skipped_said, fails_first, own_start, start, bytes_of, some_failed, failed, total, named_reject, is_kept, kept_said, failures_said, tried_said, shown, written, tried, ending_of, ending}
+use Rattle.patch_task.specs.Kinds.{is_meant}
+use Rattle.patch_run.specs.OnePatch.{Item, PlainTurn, Tried, hunk_said, hunks_said, script_said, change_said, Start, skips, refuses, tries, Ending, ended, stopped, said_first, skips_at, lines_in, first_hunk, is_reversed, turns_round, on_direction, lacks_word, prereq_said, on_prereq, refusal_of, refused_or, on_taking, unfit, unfit_said, on_misfit, is_forced, on_fitting, on_file, patching_said, on_meant, unmeant_said, on_target, on_choice, choice_of, is_first, changes_said, skipped_said, fails_first, own_start, start, bytes_of, some_failed, failed, total, named_reject, is_kept, kept_said, failures_said, tried_said, shown, written, tried, ending_of, ending}
 use Rattle.patch_run.specs.Run.{Run, begun, turn_of, with_ending, if_going, with_item, run_on}
 use Rattle.patch_run.specs.Outcome.{moved_for, item_for, run_for}
 
@@ -83,7 +84,8 @@ module _ (t : PlainTurn) (place : ℕ) (silent : t.options.silent ≡ true) wher
   mute_target : (f : Files) → Mute (on_target t f place)
   mute_target f =
       let side = side_of t.options.reverse in
-      mute_first (patching_said t place) (on_file t f place side) (none_of _) (mute_fitting (bytes_of t f place) side (unfit t f place side))
+      mute_if (is_meant t.item.patch) (on_meant t f place) (skips_at (unmeant_said t place) place side None)
+      (mute_first (patching_said t place) (on_file t f place side) (none_of _) (mute_fitting (bytes_of t f place) side (unfit t f place side))) tt
 
 mute_choice : (t : PlainTurn) (f : Files) (x : Choice) → t.options.silent ≡ true → Mute (on_choice t f x)
 mute_choice t f (Existing k) silent = mute_target t k silent f

@@ -5,7 +5,7 @@ use Rattle.hunk_apply.specs.Written.{is_nothing}
 use Rattle.hunk_core.specs.declared.Side.{Side}
 use Rattle.file_patch.specs.Absent.{deletes}
 use Rattle.file_patch.specs.declared.derived.Target.{Target}
-use Rattle.patch_task.specs.Asking.{moves, renames, is_bare, acts_new, acts_deleted, takes_files, mode_asked}
+use Rattle.patch_task.specs.Asking.{moves, renames, is_bare, acts_new, acts_deleted, takes_files, is_set, mode_asked}
 use Rattle.patch_task.specs.Turns.{PlainTurn}
 use Rattle.patch_task.specs.Outputs.{Tried, some_placed}
 use Rattle.patch_outcome.specs.Outcome.{is_taken_away, is_made_bare, is_backup_apart}
@@ -18,7 +18,7 @@ module _ (t : PlainTurn) (x : Tried) where
       ∙ ap (λ (s : Side). acts_deleted s t.item.patch) from
 
   abbrev rest : Side → Bool
-  rest s = if acts_deleted s t.item.patch then is_taken_away t x && is_nothing x.text else is_some (mode_asked t.options s t.item.patch)
+  rest s = if acts_deleted s t.item.patch then is_taken_away t x && is_nothing x.text else is_set (mode_asked t.options s t.item.patch)
 
   pub made_new : (side : Side) → x.side ≡ side → acts_new side t.item.patch ≡ true → is_made_bare t x ≡ true
   made_new side from is = ap (λ (s : Side). acts_new s t.item.patch || moves t.item.patch || rest s) from ∙ ap (λ b. b || moves t.item.patch || rest side) is
@@ -38,10 +38,10 @@ module _ (t : PlainTurn) (x : Tried) where
           ∙ ap (λ b. b || rest side) stays
 
       pub made_gone : acts_deleted side t.item.patch ≡ true → is_made_bare t x ≡ (is_taken_away t x && is_nothing x.text)
-      made_gone is = by_rest ∙ ap (λ b. if b then is_taken_away t x && is_nothing x.text else is_some (mode_asked t.options side t.item.patch)) is
+      made_gone is = by_rest ∙ ap (λ b. if b then is_taken_away t x && is_nothing x.text else is_set (mode_asked t.options side t.item.patch)) is
 
-      pub made_moded : acts_deleted side t.item.patch ≡ false → is_made_bare t x ≡ is_some (mode_asked t.options side t.item.patch)
-      made_moded is = by_rest ∙ ap (λ b. if b then is_taken_away t x && is_nothing x.text else is_some (mode_asked t.options side t.item.patch)) is
+      pub made_moded : acts_deleted side t.item.patch ≡ false → is_made_bare t x ≡ is_set (mode_asked t.options side t.item.patch)
+      made_moded is = by_rest ∙ ap (λ b. if b then is_taken_away t x && is_nothing x.text else is_set (mode_asked t.options side t.item.patch)) is
 
 module _ (t : PlainTurn) (w other : Target) (own : bytes_eq w.backup w.name ≡ false) where
   pub apart_moved : renames t.item.patch ≡ true → is_backup_apart t w other ≡ not (bytes_eq w.backup other.name)

@@ -18,7 +18,8 @@ use Rattle.hunk_apply.specs.Written.{is_nothing}
 use Rattle.reject_text.specs.Rejects.{reject_text, hunks_in}
 use Rattle.say_text.specs.Messages.{not_deleting_line, failures_line}
 use Rattle.patch_task.specs.TargetEffects.{put_if, backup_effects, target_effects, moved_effects}
-use Rattle.patch_task.specs.Asking.{moves, renames, is_bare, acts_new, acts_deleted, takes_files, mode_asked}
+use Rattle.patch_task.specs.Asking.{moves, renames, is_bare, acts_new, acts_deleted, takes_files, is_set, mode_asked}
+use Rattle.patch_task.specs.Kinds.{is_link}
 use Rattle.patch_task.specs.Turns.{Mark, PlainTurn, written, written_by, renamed_by, shown, shown_reject, total}
 use Rattle.patch_task.specs.Outputs.{Tried, failed, some_placed, some_failed}
 use Rattle.patch_outcome.specs.HunksSaid.{change_said}
@@ -113,15 +114,15 @@ is_backup_due t w other vs = not (was_written t.past w.name) && is_backup_apart 
 
 -- without a hunk the target is written where a file is made, renamed or copied, an empty one is taken away, or a file that stays gets a mode
 abbrev pub is_made_bare : PlainTurn → Tried → Bool
-is_made_bare t x = acts_new x.side t.item.patch || moves t.item.patch || (if acts_deleted x.side t.item.patch then is_taken_away t x && is_nothing x.text else is_some (mode_asked t.options x.side t.item.patch))
+is_made_bare t x = acts_new x.side t.item.patch || moves t.item.patch || (if acts_deleted x.side t.item.patch then is_taken_away t x && is_nothing x.text else is_set (mode_asked t.options x.side t.item.patch))
 
 -- and with hunks where one was placed
 abbrev pub is_written : PlainTurn → Tried → Bool
 is_written t x = some_placed x.verdicts || (is_bare t.item.patch && is_made_bare t x)
 
--- a file without a byte is to go: the file patch deletes its file, or `-E` was given (GNU patch manual, "Creating and Removing Files")
+-- a file without a byte is to go: the file patch deletes its file, or `-E` was given (GNU patch manual, "Creating and Removing Files"); and so is a symbolic link without a text
 abbrev pub is_unwanted : PlainTurn → Side → Bool
-is_unwanted t side = t.options.remove_empty || (takes_files t.options && deletes side t.item.patch)
+is_unwanted t side = (t.options.remove_empty || is_link t.item.patch) || (takes_files t.options && deletes side t.item.patch)
 
 -- an output of the options is put, and so is one with conditions, and a file that is renamed or copied
 abbrev pub is_always_put : PlainTurn → Bool

@@ -30,8 +30,8 @@ use hunk_core::{Side, Verdict};
 use outside::{Failed, Tree};
 use patch_options::Options;
 use patch_task::{
-    Made, RunFault, acts_deleted, acts_new, is_bare, is_same, keep_old, mode_asked, renames,
-    takes_files, write_moved, write_placed,
+    Made, RunFault, acts_deleted, acts_new, is_bare, is_link, is_same, keep_old, mode_asked,
+    renames, takes_files, write_moved, write_placed,
 };
 use replace_file::Temp;
 
@@ -128,13 +128,13 @@ fn write_target<T: Tree>(
         Err(_) => return Err(RunFault::Tree),
     };
     let due = is_backup_due(turn, target, source, session);
-    let executable = mode_asked(&turn.task, side);
+    let mode = mode_asked(&turn.task, side);
     if !moving {
         let removal = is_removal(turn, side, session);
-        return write_placed(target, due, removal, executable, temp, tree);
+        return write_placed(&source.name, target, due, removal, mode, temp, tree);
     }
     let source_due = is_backup_due(turn, source, target, session);
-    write_moved(source, target, due, source_due, executable, temp, tree)
+    write_moved(source, target, due, source_due, mode, temp, tree)
 }
 
 /// Whether the source of a rename goes, which is there and isn't the target itself.
@@ -197,7 +197,7 @@ fn is_made_bare(turn: &Turn<'_>, side: Side, session: &Session) -> bool
     if acts_deleted(turn.task.patch, side) {
         return is_emptied(turn, side, session);
     }
-    mode_asked(&turn.task, side).is_some()
+    mode_asked(&turn.task, side).is_set()
 }
 
 /// Whether the file is to be taken away, and has no byte.
@@ -286,12 +286,12 @@ fn is_always_put(turn: &Turn<'_>) -> bool
     turn.task.patch.is_moved()
 }
 
-/// Whether a file without a byte is to be taken away.
+/// Whether a file without a byte is to be taken away; a symbolic link without a text always is.
 fn is_unwanted(turn: &Turn<'_>, side: Side) -> bool
     requires turn { IsTurn turn.now }
     ensures { result ≡ is_unwanted (plain_turn turn.now) side }
 {
-    if turn.task.options.remove_empty {
+    if turn.task.options.remove_empty || is_link(&turn.task) {
         return true;
     }
     takes_files(turn.task.options) && turn.task.patch.deletes(side)

@@ -12,6 +12,7 @@ use Rattle.patch_options.specs.PlainJob.{PlainOptions}
 use Rattle.file_patch.specs.declared.derived.Target.{Target}
 use Rattle.patch_task.specs.TargetEffects.{put_if, backup_effects, target_effects, moving_effects, moved_effects}
 use Rattle.patch_task.specs.Asking.{moves, renames}
+use Rattle.patch_task.specs.Kinds.{is_link}
 use Rattle.patch_run.specs.OnePatch.{Item, PlainTurn, Start, skips, refuses, tries, Ending, ended, stopped, Tried, bytes_of, lines_in, target_at, written, tried, is_backup_due, is_old_kept, is_removal, is_moving, is_written, made_effects, written_effects, has_rejects, rejects_text, reject_effects, effects_of, finished_at, start, ending_of, ending}
 use Rattle.patch_run.specs.Run.{Run, begun, turn_of, with_ending, if_going, with_item, run_on, run_of}
 use Rattle.patch_run.specs.Laws.{removed_in, keeps_files, IsSource, TakesItsSource}
@@ -65,21 +66,22 @@ module _ (Q : List ℕ → Type 0) where
 
 -- ---- files that are kept
 
-kept_tests : (define out nothing posix empty moving nodef del : Bool) → (define || (posix && not empty)) ≡ true → (nothing && not (out || define || moving) && (empty || ((not posix && nodef) && del))) ≡ false
-kept_tests define out false posix empty moving nodef del is = refl
-kept_tests true true true posix empty moving nodef del is = refl
-kept_tests true false true posix empty moving nodef del is = refl
-kept_tests false out true false empty moving nodef del is = absurd (false≢true is)
-kept_tests false out true true true moving nodef del is = absurd (false≢true is)
-kept_tests false true true true false moving nodef del is = refl
-kept_tests false false true true false true nodef del is = refl
-kept_tests false false true true false false nodef del is = refl
+kept_tests : (define out nothing posix empty link moving nodef del : Bool) → (define || (posix && (not empty && not link))) ≡ true → (nothing && not (out || define || moving) && ((empty || link) || ((not posix && nodef) && del))) ≡ false
+kept_tests define out false posix empty link moving nodef del is = refl
+kept_tests true true true posix empty link moving nodef del is = refl
+kept_tests true false true posix empty link moving nodef del is = refl
+kept_tests false out true false empty link moving nodef del is = absurd (false≢true is)
+kept_tests false out true true true link moving nodef del is = absurd (false≢true is)
+kept_tests false out true true false true moving nodef del is = absurd (false≢true is)
+kept_tests false true true true false false moving nodef del is = refl
+kept_tests false false true true false false true nodef del is = refl
+kept_tests false false true true false false false nodef del is = refl
 
-no_removal : (t : PlainTurn) (x : Tried) → keeps_files t.options ≡ true → is_removal t x ≡ false
+no_removal : (t : PlainTurn) (x : Tried) → keeps_files t.options t.item.patch ≡ true → is_removal t x ≡ false
 no_removal t x is =
-    kept_tests (is_some t.options.define) (is_some t.options.output) (is_nothing x.text) t.options.posix t.options.remove_empty (moves t.item.patch) (is_none t.options.define) (deletes x.side t.item.patch) is
+    kept_tests (is_some t.options.define) (is_some t.options.output) (is_nothing x.text) t.options.posix t.options.remove_empty (is_link t.item.patch) (moves t.item.patch) (is_none t.options.define) (deletes x.side t.item.patch) is
 
-start_takes : (t : PlainTurn) (f : Files) (s : Start) → keeps_files t.options ≡ true → TakesItsSource t (ending_of t f s)
+start_takes : (t : PlainTurn) (f : Files) (s : Start) → keeps_files t.options t.item.patch ≡ true → TakesItsSource t (ending_of t f s)
 start_takes t f (skips said row taken) is = tt
 start_takes t f (refuses said fault) is = tt
 start_takes t f (tries said place side) is =
@@ -87,7 +89,7 @@ start_takes t f (tries said place side) is =
     let x = tried t side (lines_in (bytes_of t f place)) in
     takes_effects (IsSource t st.row) t f (target_at t.item.targets place) (written t place) x (no_removal t x is) (λ moves. (moves, (place, (refl, refl))))
 
-pub takes_source : (t : PlainTurn) (f : Files) → keeps_files t.options ≡ true → TakesItsSource t (ending t f)
+pub takes_source : (t : PlainTurn) (f : Files) → keeps_files t.options t.item.patch ≡ true → TakesItsSource t (ending t f)
 unfolding ending
 takes_source t f is = start_takes t f (start t f) is
 
@@ -111,7 +113,7 @@ with_none t r (ended st) stays takes none =
     removed-more r.effects st.effects none (none_of (IsSource t st.row) (removed_in st.effects) (λ name is. false≢true (sym stays ∙ is.0)) takes)
 with_none t r (stopped said fault) stays takes none = none
 
-item_none : (o : PlainOptions) (output : Option Target) (r : Run) (i : Item) → keeps_files o ≡ true → renames i.patch ≡ false → removed_in r.effects ≡ [] → removed_in (with_item o output r i).effects ≡ []
+item_none : (o : PlainOptions) (output : Option Target) (r : Run) (i : Item) → keeps_files o i.patch ≡ true → renames i.patch ≡ false → removed_in r.effects ≡ [] → removed_in (with_item o output r i).effects ≡ []
 item_none o output r i keeps stays none =
     let t = turn_of o output r i in
     elim r.stop as (λ x. removed_in (if_going x r (with_ending t r (ending t r.files))).effects ≡ []) [
@@ -119,10 +121,10 @@ item_none o output r i keeps stays none =
       | Some fault ↦ none
     ]
 
-on_none : (o : PlainOptions) (output : Option Target) (items : List Item) (r : Run) → keeps_files o ≡ true → AllByRecursion (λ i. renames i.patch ≡ false) items → removed_in r.effects ≡ [] → removed_in (run_on o output items r).effects ≡ []
+on_none : (o : PlainOptions) (output : Option Target) (items : List Item) (r : Run) → AllByRecursion (λ i. keeps_files o i.patch ≡ true) items → AllByRecursion (λ i. renames i.patch ≡ false) items → removed_in r.effects ≡ [] → removed_in (run_on o output items r).effects ≡ []
 unfolding run_on
 on_none o output [] r keeps stay none = none
-on_none o output (i ∷ items) r keeps stay none = on_none o output items (with_item o output r i) keeps stay.1 (item_none o output r i keeps stay.0 none)
+on_none o output (i ∷ items) r keeps stay none = on_none o output items (with_item o output r i) keeps.1 stay.1 (item_none o output r i keeps.0 stay.0 none)
 
-pub none_removed : (o : PlainOptions) (output : Option Target) (items : List Item) (f : Files) → keeps_files o ≡ true → AllByRecursion (λ i. renames i.patch ≡ false) items → removed_in (run_of o output items f).effects ≡ []
+pub none_removed : (o : PlainOptions) (output : Option Target) (items : List Item) (f : Files) → AllByRecursion (λ i. keeps_files o i.patch ≡ true) items → AllByRecursion (λ i. renames i.patch ≡ false) items → removed_in (run_of o output items f).effects ≡ []
 none_removed o output items f keeps stay = on_none o output items (begun f) keeps stay refl

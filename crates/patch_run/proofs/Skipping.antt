@@ -10,10 +10,11 @@ use Rattle.name_choice.specs.declared.Choice.{Choice}
 use Rattle.name_choice.specs.declared.Choice.TheVariants.{Existing, Create, Nothing}
 use Rattle.say_text.specs.Messages.{silenced, reversed_line}
 use Rattle.say_text.specs.declared.standing.Standing.{Standing}
-use Rattle.patch_run.specs.OnePatch.{PlainTurn, Start, skips, refuses, tries, said_first, skips_at, lines_in, first_hunk, is_reversed, turns_round, on_direction, lacks_word, prereq_said, on_prereq, refusal_of, refused_or, on_taking, unfit, unfit_said, on_misfit, is_needed, is_forced, on_fitting, on_file, patching_said, on_target, on_choice, choice_of, skipped_said, own_start, start, bytes_of, written}
+use Rattle.patch_run.specs.OnePatch.{PlainTurn, Start, skips, refuses, tries, said_first, skips_at, lines_in, first_hunk, is_reversed, turns_round, on_direction, lacks_word, prereq_said, on_prereq, refusal_of, refused_or, on_taking, unfit, unfit_said, on_misfit, is_needed, is_forced, on_fitting, on_file, patching_said, on_meant, unmeant_said, on_target, on_choice, choice_of, skipped_said, own_start, start, bytes_of, written}
 use Rattle.patch_task.specs.Asking.{moves}
+use Rattle.patch_task.specs.Kinds.{is_meant}
 use Rattle.patch_task.specs.Turns.{is_source}
-use Rattle.patch_run.specs.Laws.{IsSkip, is_taken, is_over_needed, is_unsuited, is_skipped, goes_over_needed}
+use Rattle.patch_run.specs.Laws.{IsSkip, is_taken, is_over_needed, is_unsuited_if_meant, is_unsuited, is_skipped, goes_over_needed}
 
 abbrev is_skip : Start → Bool
 is_skip (skips said row taken) = true
@@ -53,6 +54,10 @@ by_word force was lacks rev turns = if not lacks then by_direction force was rev
 
 abbrev by_all : Bool → Bool → Bool → Bool → Bool → Bool → Bool → Bool → Bool
 by_all force way needed taken lacks rev turns other = if not way || (force && not needed) then taken && by_word force false lacks rev turns else (if turns then taken && by_word force true lacks other turns else true)
+
+unless_meant : (meant rest : Bool) → (if meant then rest else true) ≡ (not meant || rest)
+unless_meant true rest = refl
+unless_meant false rest = refl
 
 -- they are the one test that the law says; what moves a file is never turned round
 same_tests : (force way needed taken lacks rev turns other : Bool) → (needed && turns) ≡ false
@@ -134,8 +139,8 @@ module _ (t : PlainTurn) (k : ℕ) where
       ∙ ap (λ b. if goes then is_none (refusal_of t.options.buffer bytes) && by_word force false (lacks_word t.item.patch.header.prereq bytes) (is_reversed t.options (lines_in bytes) side (first_hunk t.item.patch.change)) turns else b)
       (skip_if turns turned stop ∙ ap (λ b. if turns then b else true) (skip_first (unfit_said t stands k true) taking ∙ skip_taking bytes true (other_side side)))
 
-  skip_target : (f : Files) → is_skip (on_target t f k) ≡ is_unsuited t f k
-  skip_target f =
+  skip_meant : (f : Files) → is_skip (on_meant t f k) ≡ is_unsuited_if_meant t f k
+  skip_meant f =
       let side = side_of t.options.reverse in
       let bytes = bytes_of t f k in
       let rev = is_reversed t.options (lines_in bytes) side (first_hunk t.item.patch.change) in
@@ -144,6 +149,13 @@ module _ (t : PlainTurn) (k : ℕ) where
       ∙ skip_fitting bytes side (unfit t f k side)
       ∙ same_tests t.options.force (is_some (unfit t f k side)) (is_needed t k) (is_taken t f k) (lacks_word t.item.patch.header.prereq bytes) rev (turns_round t) other
       (needed_stays (moves t.item.patch) (is_source t (written t k).name) (t.options.batch && not t.options.forward))
+
+  skip_target : (f : Files) → is_skip (on_target t f k) ≡ is_unsuited t f k
+  skip_target f =
+      let meant = is_meant t.item.patch in
+      skip_if meant (on_meant t f k) (skips_at (unmeant_said t k) k (side_of t.options.reverse) None)
+      ∙ ap (λ b. if meant then b else true) (skip_meant f)
+      ∙ unless_meant meant (is_unsuited_if_meant t f k)
 
 skip_choice : (t : PlainTurn) (f : Files) (c : Choice) → is_skip (on_choice t f c) ≡ is_skipped t f c
 skip_choice t f (Existing k) = skip_target t k f
@@ -160,27 +172,29 @@ skipped_as t f =
 
 -- ---- with `-f`
 
-forced_only : (over force rest : Bool) → force ≡ true → (over || (not force && rest)) ≡ true → over ≡ true
-forced_only true force rest forced is = refl
-forced_only false true rest forced is = is
-forced_only false false rest forced is = absurd cc
+forced_only : (meant over force rest : Bool) → force ≡ true → (not meant || (over || (not force && rest))) ≡ true → (meant ≡ false) ⊎ (over ≡ true)
+forced_only false over force rest forced is = inl refl
+forced_only true true force rest forced is = inr refl
+forced_only true false true rest forced is = inr is
+forced_only true false false rest forced is = absurd (false≢true forced)
 
-over_skips : (over rest : Bool) → over ≡ true → (over || rest) ≡ true
-over_skips true rest is = refl
-over_skips false rest is = absurd (false≢true is)
+over_skips : (unmeant over rest : Bool) → over ≡ true → (unmeant || (over || rest)) ≡ true
+over_skips true over rest is = refl
+over_skips false true rest is = refl
+over_skips false false rest is = absurd (false≢true is)
 
-forced_choice : (t : PlainTurn) (f : Files) (c : Choice) → t.options.force ≡ true → is_skipped t f c ≡ true → (c ≡ Nothing) ⊎ (goes_over_needed t f c ≡ true)
-forced_choice t f (Existing k) forced is = inr (forced_only (is_over_needed t f k) t.options.force _ forced is)
-forced_choice t f (Create k) forced is = inr (forced_only (is_over_needed t f k) t.options.force _ forced is)
+forced_choice : (t : PlainTurn) (f : Files) (c : Choice) → t.options.force ≡ true → is_skipped t f c ≡ true → (c ≡ Nothing) ⊎ ((is_meant t.item.patch ≡ false) ⊎ (goes_over_needed t f c ≡ true))
+forced_choice t f (Existing k) forced is = inr (forced_only (is_meant t.item.patch) (is_over_needed t f k) t.options.force _ forced is)
+forced_choice t f (Create k) forced is = inr (forced_only (is_meant t.item.patch) (is_over_needed t f k) t.options.force _ forced is)
 forced_choice t f Nothing forced is = inl refl
 
 needed_choice : (t : PlainTurn) (f : Files) (c : Choice) → goes_over_needed t f c ≡ true → is_skipped t f c ≡ true
-needed_choice t f (Existing k) is = over_skips (is_over_needed t f k) _ is
-needed_choice t f (Create k) is = over_skips (is_over_needed t f k) _ is
+needed_choice t f (Existing k) is = over_skips (not (is_meant t.item.patch)) (is_over_needed t f k) _ is
+needed_choice t f (Create k) is = over_skips (not (is_meant t.item.patch)) (is_over_needed t f k) _ is
 needed_choice t f Nothing is = refl
 
 -- a file patch is skipped only where no name results, or where it would go over a file that is needed
-pub forced_skip : (t : PlainTurn) (f : Files) → t.options.force ≡ true → IsSkip (start t f) → (choice_of t f ≡ Nothing) ⊎ (goes_over_needed t f (choice_of t f) ≡ true)
+pub forced_skip : (t : PlainTurn) (f : Files) → t.options.force ≡ true → IsSkip (start t f) → (choice_of t f ≡ Nothing) ⊎ ((is_meant t.item.patch ≡ false) ⊎ (goes_over_needed t f (choice_of t f) ≡ true))
 forced_skip t f forced is = forced_choice t f (choice_of t f) forced ((skipped_as t f).0 is)
 
 pub needed_skip : (t : PlainTurn) (f : Files) → goes_over_needed t f (choice_of t f) ≡ true → IsSkip (start t f)

@@ -12,9 +12,11 @@ use Rattle.patch_options.specs.PlainJob.{PlainOptions}
 use Rattle.name_choice.specs.Choice.{side_of}
 use Rattle.name_choice.specs.declared.Choice.{Choice}
 use Rattle.name_choice.specs.declared.Choice.TheVariants.{Existing, Create, Nothing}
+use Rattle.file_patch.specs.PlainPatch.{PlainPatch}
 use Rattle.file_patch.specs.declared.derived.Target.{Target}
 use Rattle.patch_set.specs.declared.set.Row.{Row}
 use Rattle.patch_task.specs.Asking.{renames}
+use Rattle.patch_task.specs.Kinds.{is_meant, is_link}
 use Rattle.patch_run.specs.OnePatch.{Item, Mark, PlainTurn, Start, skips, refuses, tries, Ending, ended, stopped, target_at, written_by, renamed_by, bytes_of, lines_in, first_hunk, is_reversed, turns_round, lacks_word, refusal_of, unfit, is_needed, is_name, finished_at}
 use Rattle.patch_run.specs.Run.{files_after}
 
@@ -47,8 +49,12 @@ abbrev pub is_over_needed : PlainTurn → Files → ℕ → Bool
 is_over_needed t files k = is_some (unfit t files k (side_of t.options.reverse)) && is_needed t k
 
 -- it is skipped there, with `-f` too; without `-f` also where it looks applied and isn't turned round, or the word is missing
+abbrev pub is_unsuited_if_meant : PlainTurn → Files → ℕ → Bool
+is_unsuited_if_meant t files k = is_over_needed t files k || (not t.options.force && ((looks_applied t files k && not (turns_round t)) || is_unready t files k))
+
+-- and where its modes ask for what isn't done
 abbrev pub is_unsuited : PlainTurn → Files → ℕ → Bool
-is_unsuited t files k = is_over_needed t files k || (not t.options.force && ((looks_applied t files k && not (turns_round t)) || is_unready t files k))
+is_unsuited t files k = not (is_meant t.item.patch) || is_unsuited_if_meant t files k
 
 -- a name results, and the file at it would be renamed or copied there
 abbrev pub goes_over_needed : PlainTurn → Files → Choice → Bool
@@ -98,9 +104,9 @@ removed_in [] = []
 removed_in (Put name bytes ∷ es) = removed_in es
 removed_in (Remove name ∷ es) = name ∷ removed_in es
 
--- with `-D` no file is taken away, with `--posix` none but by `-E`
-abbrev pub keeps_files : PlainOptions → Bool
-keeps_files o = is_some o.define || (o.posix && not o.remove_empty)
+-- with `-D` no file is taken away, with `--posix` none but by `-E`, and a symbolic link without a text
+abbrev pub keeps_files : PlainOptions → PlainPatch → Bool
+keeps_files o p = is_some o.define || (o.posix && (not o.remove_empty && not (is_link p)))
 
 -- the name is that of the file that the file patch renames
 abbrev pub IsSource : PlainTurn → Row → List ℕ → Type 0

@@ -14,12 +14,14 @@ ghost use Rattle.line_list.specs.Lines.{lines};
 ghost use Rattle.hunk_core.specs.declared.Side.{Side};
 ghost use Rattle.hunk_core.specs.declared.Verdict.{Verdict};
 ghost use Rattle.patch_task.specs.Asking.{is_bare, renames};
+ghost use Rattle.patch_task.specs.Kinds.{is_meant};
 ghost use Rattle.file_patch.specs.declared.derived.Target.{Target};
 ghost use Rattle.patch_run.specs.OnePatch.{Item, PlainTurn, Tried, choice_of, tried, start, ending, target_at, written, output_on, wrote, was_written, rejected_before, is_backup_due, is_moving, is_written, written_effects};
 ghost use Rattle.patch_run.specs.Run.{run_of, turn_of};
 ghost use Rattle.patch_run.specs.Laws.{IsSkip, is_skipped, goes_over_needed, IsIgnored, IsRenamed, HasWritten, IsApart, tried_files, TakesItsSource, removed_in, keeps_files, targets_in, is_beside, is_kept_for, rejects_to};
 
-/// A file patch is skipped exactly where no name results, or where it would rename or copy a file onto one with bytes that a
+/// A file patch is skipped exactly where no name results, or where its modes would make a link of a file, a file of a link, or
+/// a submodule, or where it would rename or copy a file onto one with bytes that a
 /// file patch of the text renames or copies, or where, without `-f`, it doesn't suit the chosen file: it looks as if it was
 /// applied before and isn't turned round, or a word is missing. It then has no effect, and each of its hunks is
 /// ignored. A dry run has no effect, and leaves the files as they are. Once a file patch has made or taken away a name, none
@@ -29,7 +31,7 @@ ghost use Rattle.patch_run.specs.Laws.{IsSkip, is_skipped, goes_over_needed, IsI
 pub fn run_laws()
     ensures skipped { (t : PlainTurn) (files : Files) → IsSkip (start t files) → IsIgnored (ending t files) }
     ensures unsuited { (t : PlainTurn) (files : Files) → IsSkip (start t files) ↔ (is_skipped t files (choice_of t files) ≡ true) }
-    ensures forced { (t : PlainTurn) (files : Files) → t.options.force ≡ true → IsSkip (start t files) → (choice_of t files ≡ Nothing) ⊎ (goes_over_needed t files (choice_of t files) ≡ true) }
+    ensures forced { (t : PlainTurn) (files : Files) → t.options.force ≡ true → IsSkip (start t files) → (choice_of t files ≡ Nothing) ⊎ ((is_meant t.item.patch ≡ false) ⊎ (goes_over_needed t files (choice_of t files) ≡ true)) }
     ensures needed { (t : PlainTurn) (files : Files) → goes_over_needed t files (choice_of t files) ≡ true → IsIgnored (ending t files) }
     ensures dry { (o : PlainOptions) (output : Option Target) (items : List Item) (files : Files) → o.dry_run ≡ true → (run_of o output items files).effects ≡ [] }
     ensures once { (o : PlainOptions) (output : Option Target) (front behind : List Item) (i j : Item) (files : Files) (w other : Target) (vs : List Verdict)
@@ -49,7 +51,8 @@ pub fn run_laws()
 /// What a file patch whose hunks were tried makes of the files. One that renames puts at the new name what its hunks make of
 /// the bytes of the old one, which goes, unless its reject file has one of these names. Any other one changes no name but its
 /// target's, those of its backup and its reject file, and temporary ones: so a copy keeps its source. With `-D` it takes no
-/// file away but one that it renames, and with `--posix` none but that and by `-E`; so a run without renames takes none.
+/// file away but one that it renames, and with `--posix` none but that, by `-E`, and a symbolic link without a text; so a run
+/// without renames takes none.
 pub fn effect_laws()
     ensures spliced { (t : PlainTurn) (files : Files) (k : ℕ) (side : Side) (bytes : List ℕ) → renames t.item.patch ≡ true
         → (target_at t.item.targets k).name ≢ (written t k).name → get files (target_at t.item.targets k).name ≡ Some bytes → IsNamed (target_at t.item.targets k) → IsNamed (written t k)
@@ -58,8 +61,8 @@ pub fn effect_laws()
         → IsRenamed (tried_files t files k side) (target_at t.item.targets k) (written t k) (output_on t.options.define t side (lines bytes)) }
     ensures kept { (t : PlainTurn) (files : Files) (k : ℕ) (side : Side) (name : List ℕ) → renames t.item.patch ≡ false → IsApart name (written t k)
         → get (tried_files t files k side) name ≡ get files name }
-    ensures taken { (t : PlainTurn) (files : Files) → keeps_files t.options ≡ true → TakesItsSource t (ending t files) }
-    ensures none { (o : PlainOptions) (output : Option Target) (items : List Item) (files : Files) → keeps_files o ≡ true → AllByRecursion (λ i. renames i.patch ≡ false) items
+    ensures taken { (t : PlainTurn) (files : Files) → keeps_files t.options t.item.patch ≡ true → TakesItsSource t (ending t files) }
+    ensures none { (o : PlainOptions) (output : Option Target) (items : List Item) (files : Files) → AllByRecursion (λ i. keeps_files o i.patch ≡ true) items → AllByRecursion (λ i. renames i.patch ≡ false) items
         → removed_in (run_of o output items files).effects ≡ [] }
 {}
 

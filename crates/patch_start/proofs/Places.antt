@@ -17,6 +17,7 @@ use Rattle.name_choice.specs.Better.{best_among}
 use Rattle.name_choice.specs.Choice.{is_there, needs_fewest, first_place, existing_or, created, existing, to_create, choice_among, existing_if, existing_at, source_place, choice, side_of, names_of, IsWithin}
 use Rattle.file_patch.specs.Actions.{is_moved}
 use Rattle.patch_set.specs.declared.set.Row.{Row}
+use Rattle.patch_task.specs.Kinds.{is_meant}
 use Rattle.patch_task.specs.Turns.{PlainTurn, bytes_of}
 use Rattle.patch_start.specs.Start.{Start, skips, refuses, tries, said_first, refused_or, on_direction, on_prereq, on_taking, on_misfit, on_fitting, on_file, on_target, on_choice, choice_of, skipped_said, own_start, start, is_reversed, lines_in, first_hunk, turns_round, lacks_word, unfit, is_forced}
 
@@ -136,7 +137,7 @@ file_at : (t : PlainTurn) (f : Files) (k : ℕ) (side : Side) → IsAt k (on_fil
 file_at t f k side = fitting_at t k (bytes_of t f k) side (unfit t f k side)
 
 target_at_place : (t : PlainTurn) (f : Files) (k : ℕ) → IsAt k (on_target t f k)
-target_at_place t f k = first_at k _ (on_file t f k _) (file_at t f k _)
+target_at_place t f k = either k (is_meant t.item.patch) _ _ (first_at k _ (on_file t f k _) (file_at t f k _)) (skip_at k _ _ _)
 
 -- hunks are tried only at a place among the targets
 abbrev pub IsTriedWithin : ℕ → Start → Type 0

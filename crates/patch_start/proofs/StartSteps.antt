@@ -1,5 +1,5 @@
 -- How the start of a file patch goes on from step to step.
-use Rattle.std.proofs.Common.{◌≡◌, ℕ, List, [], ◌++◌, Option, None, Result, Ok, Err, IfOk, IfErr, IsErrAnd, refl, sym, ◌∙◌, ap, subst, arith}
+use Rattle.std.proofs.Common.{◌≡◌, ℕ, List, [], ◌++◌, Option, None, Some, Result, Ok, Err, IfOk, IfErr, IsErrAnd, refl, sym, ◌∙◌, ap, subst, arith}
 use Rattle.std.proofs.lemmas.Bool.{false≢true}
 use Rattle.std.proofs.lemmas.List.{append-nil}
 use Rattle.outside.specs.Files.{Files}
@@ -230,6 +230,30 @@ module _ {sa : ℕ → List ℕ → Option (List ℕ) → Option (List ℕ)} {by
     decided = tt;
     scratch = tt;
     broken = λ f told. none_part c (said_in (start f));
+  }
+
+  -- something that no tree tells of is in the way
+  pub starts_barred : {u w : TreeView} {c d : SinkView} {p : List ℕ} (a : Seen) (r : Result Decision RunFault) (start : Files → Start)
+      → IsUntouched u w → ((f : Files) → u.told ≡ Some f → ⊥) → Writes c d r p → IfErr r (λ e. e ≡ Write) → Starts u w a a c d sa r bytes start
+  starts_barred a (Ok y) start same untold first fault = record {
+    untouched = same;
+    plan = plan_none a;
+    sink = first.call.passes;
+    cause = tt;
+    said = λ f told. absurd (untold f told.0);
+    decided = λ f told. absurd (untold f told.0);
+    scratch = λ f told. absurd (untold f told.0);
+    broken = tt;
+  }
+  starts_barred {u = u} {w = w} {c = c} {d = d} a (Err y) start same untold first fault = record {
+    untouched = same;
+    plan = plan_none a;
+    sink = first.call.passes;
+    cause = subst (λ (z : RunFault). HasRunCause z u w a a c d) (sym fault) (first.call.cause refl);
+    said = tt;
+    decided = tt;
+    scratch = tt;
+    broken = λ f told. absurd (untold f told.0);
   }
 
 -- what was said, of another value

@@ -22,11 +22,14 @@ use Rattle.name_choice.specs.declared.Choice.{Choice}
 use Rattle.name_choice.specs.declared.Choice.TheVariants.{Existing, Create, Nothing}
 use Rattle.name_choice.specs.Choice.{choice, names_of, side_of}
 use Rattle.name_choice.specs.Making.{names_new}
-use Rattle.say_text.specs.Messages.{silenced, patching_line, no_file_lines, prereq_line, reversed_line, unfit_line}
+use Rattle.say_text.specs.Messages.{silenced, patching_line, no_file_lines, prereq_line, reversed_line, unfit_line, type_line, submodule_line}
 use Rattle.say_text.specs.declared.standing.Standing.{Standing}
 use Rattle.say_text.specs.Origins.{PlainOrigin}
 use Rattle.say_text.specs.Origins.PlainOrigin.{Itself, RenamedFrom, CopiedFrom}
 use Rattle.patch_task.specs.Asking.{moves}
+use Rattle.patch_task.specs.Kinds.{subject_of, is_meant, is_link}
+use Rattle.patch_task.specs.declared.kinds.Subject.{Subject}
+use Rattle.patch_task.specs.declared.kinds.Subject.TheVariants as subject
 use Rattle.patch_start.specs.Skipping.{changes_said, has_failing}
 use Rattle.patch_start.specs.Fitting.{standing_of, purpose_of, misfit}
 use Rattle.patch_task.specs.Turns.{Mark, PlainTurn, target_at, written, bytes_of, shown, is_source}
@@ -161,10 +164,24 @@ abbrev pub named : PlainTurn → ℕ → Target
 named t place = if moves t.item.patch then written t place else target_at t.item.targets place
 
 abbrev pub patching_said : PlainTurn → ℕ → List ℕ
-patching_said t place = silenced t.options (patching_line t.options.dry_run t.options.output (shown (named t place)) (origin_of t place))
+patching_said t place = silenced t.options (patching_line t.options.dry_run (is_link t.item.patch) t.options.output (shown (named t place)) (origin_of t place))
+
+abbrev pub on_meant : PlainTurn → Files → ℕ → Start
+on_meant t files place = said_first (patching_said t place) (on_file t files place (side_of t.options.reverse))
+
+-- a file doesn't become a link, nor a link a file, and a submodule is neither
+abbrev pub unmeant_line : Bool → List ℕ → Subject → List ℕ
+unmeant_line reverse name subject.File = []
+unmeant_line reverse name subject.Link = []
+unmeant_line reverse name subject.FileToLink = type_line (not reverse) name
+unmeant_line reverse name subject.LinkToFile = type_line reverse name
+unmeant_line reverse name subject.Submodule = submodule_line name
+
+abbrev pub unmeant_said : PlainTurn → ℕ → List ℕ
+unmeant_said t place = unmeant_line t.options.reverse (shown (named t place)) (subject_of t.item.patch)
 
 abbrev pub on_target : PlainTurn → Files → ℕ → Start
-on_target t files place = said_first (patching_said t place) (on_file t files place (side_of t.options.reverse))
+on_target t files place = if is_meant t.item.patch then on_meant t files place else skips_at (unmeant_said t place) place (side_of t.options.reverse) None
 
 abbrev pub on_choice : PlainTurn → Files → Choice → Start
 on_choice t files (Existing k) = on_target t files k

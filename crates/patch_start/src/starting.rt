@@ -9,14 +9,17 @@ ghost use Rattle.outside.specs.SinkView.{Writes};
 ghost use Rattle.name_choice.specs.Choice.{IsWithin as IsAmong, side_of};
 ghost use Rattle.say_text.specs.Messages.{no_file_lines};
 ghost use Rattle.patch_task.specs.declared.fault.RunFault.TheVariants.{Write};
+ghost use Rattle.patch_task.specs.Kinds.{is_link};
 ghost use Rattle.patch_task.specs.Turns.{Mark, bytes_of};
-ghost use Rattle.patch_start.specs.Start.{start, own_start, is_first, choice_of, on_target, on_file, on_unfit, on_misfit, on_taking};
+ghost use Rattle.patch_start.specs.Start.{start, own_start, is_first, choice_of, on_target, on_meant, on_file, on_unfit, on_misfit, on_taking};
 ghost use Rattle.patch_start.specs.Starting.{Starts, Takes, IsPresent, IsWithin};
 ghost use Rattle.patch_task.specs.TaskView.{plain_task, with_past, IsTask};
 
 use crate::choices::{is_forced, turns_round};
 use crate::fitting::unfit;
 use crate::naming::{named, origin};
+use crate::obstacles::{is_about_link, obstacle};
+use crate::refusing::{on_barred, on_unmeant};
 use crate::skipping::tell_skipped;
 use crate::weighing::weigh;
 use hunk_core::Side;
@@ -24,7 +27,7 @@ use line_store::{OpenFault, Plan};
 use name_choice::{Choice, choose};
 use outside::{Failed, Name, Sink, Tree};
 use patch_set::{Row, is_posix};
-use patch_task::{RunFault, Task, chosen, shown, written};
+use patch_task::{RunFault, Task, chosen, shown, subject_of, written};
 use say_text::{Standing, say_no_file, say_patching, say_unfit};
 
 /// What becomes of a file patch.
@@ -114,7 +117,7 @@ fn without_target<O: Sink>(task: &Task<'_>, out: &mut O) -> Result<Decision, Run
 }
 
 /// The side that the options ask for.
-fn own_side(task: &Task<'_>) -> Side
+pub fn own_side(task: &Task<'_>) -> Side
     ensures { result ≡ side_of task.now.options.now.reverse }
 {
     if task.options.reverse {
@@ -141,8 +144,84 @@ fn on_target<P: Plan, T: Tree, O: Sink>(
     ensures rest { O.same_rest out.old out.new }
     ensures within { IfOk result (IsWithin (length task.now.patch.now.targets.items)) }
 {
+    if subject_of(task).is_meant() {
+        on_meant(task, place, there, plan, tree, out)
+    } else {
+        on_unmeant(task, place, out)
+    }
+}
+
+/// Its modes ask for what is done.
+fn on_meant<P: Plan, T: Tree, O: Sink>(
+    task: &Task<'_>,
+    place: u32,
+    there: bool,
+    plan: &mut P,
+    tree: &mut T,
+    out: &mut O,
+) -> Result<Decision, RunFault>
+    requires task { IsTask task.now }
+    requires size { (P.seen plan.old).size ≡ task.now.options.now.buffer }
+    requires within { place < length task.now.patch.now.targets.items }
+    requires there { (f : Files) → (T.view tree.old).told ≡ Some f → there ≡ is_some (bytes_of (plain_task task.now) f place) }
+    ensures starts { Starts (T.view tree.old) (T.view tree.new) (P.seen plan.old) (P.seen plan.new) (O.view out.old) (O.view out.new) P.scratch_after result (bytes_of (plain_task task.now)) (λ f. on_meant (plain_task task.now) f place) }
+    ensures rest { O.same_rest out.old out.new }
+    ensures within { IfOk result (IsWithin (length task.now.patch.now.targets.items)) }
+{
+    match is_about_link(task, place, tree) {
+        Ok(link) => on_way(task, place, there, link, plan, tree, out),
+        Err(_) => Err(RunFault::Tree),
+    }
+}
+
+/// Where something is in the way, nothing is done; `link` says whether it is about a symbolic link.
+fn on_way<P: Plan, T: Tree, O: Sink>(
+    task: &Task<'_>,
+    place: u32,
+    there: bool,
+    link: bool,
+    plan: &mut P,
+    tree: &mut T,
+    out: &mut O,
+) -> Result<Decision, RunFault>
+    requires task { IsTask task.now }
+    requires size { (P.seen plan.old).size ≡ task.now.options.now.buffer }
+    requires within { place < length task.now.patch.now.targets.items }
+    requires there { (f : Files) → (T.view tree.old).told ≡ Some f → there ≡ is_some (bytes_of (plain_task task.now) f place) }
+    requires link { (f : Files) → (T.view tree.old).told ≡ Some f → link ≡ is_link (plain_task task.now).item.patch }
+    ensures starts { Starts (T.view tree.old) (T.view tree.new) (P.seen plan.old) (P.seen plan.new) (O.view out.old) (O.view out.new) P.scratch_after result (bytes_of (plain_task task.now)) (λ f. on_meant (plain_task task.now) f place) }
+    ensures rest { O.same_rest out.old out.new }
+    ensures within { IfOk result (IsWithin (length task.now.patch.now.targets.items)) }
+{
+    match obstacle(task, place, link, tree) {
+        Ok(None) => on_free(task, place, there, link, plan, tree, out),
+        Ok(Some(barrier)) => on_barred(task, place, barrier, out),
+        Err(_) => Err(RunFault::Tree),
+    }
+}
+
+/// Nothing is in the way.
+fn on_free<P: Plan, T: Tree, O: Sink>(
+    task: &Task<'_>,
+    place: u32,
+    there: bool,
+    link: bool,
+    plan: &mut P,
+    tree: &mut T,
+    out: &mut O,
+) -> Result<Decision, RunFault>
+    requires task { IsTask task.now }
+    requires size { (P.seen plan.old).size ≡ task.now.options.now.buffer }
+    requires within { place < length task.now.patch.now.targets.items }
+    requires there { (f : Files) → (T.view tree.old).told ≡ Some f → there ≡ is_some (bytes_of (plain_task task.now) f place) }
+    requires link { (f : Files) → (T.view tree.old).told ≡ Some f → link ≡ is_link (plain_task task.now).item.patch }
+    ensures starts { Starts (T.view tree.old) (T.view tree.new) (P.seen plan.old) (P.seen plan.new) (O.view out.old) (O.view out.new) P.scratch_after result (bytes_of (plain_task task.now)) (λ f. on_meant (plain_task task.now) f place) }
+    ensures rest { O.same_rest out.old out.new }
+    ensures within { IfOk result (IsWithin (length task.now.patch.now.targets.items)) }
+{
     say_patching(
         task.options,
+        link,
         shown(named(task, place)),
         origin(task, place),
         out,

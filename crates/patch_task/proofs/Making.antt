@@ -15,6 +15,7 @@ use Rattle.outside.proofs.Quiet.{lasting-only, works_none}
 use Rattle.outside.proofs.Effects.{made_none, made_more, made_since, made_tells, made_tells_all, since_longer, tells_longer}
 use Rattle.replace_file.specs.Puts.{Puts}
 use Rattle.replace_file.proofs.Putting.{puts_makes, bytes_same}
+pub use Rattle.replace_file.proofs.Copying.{untouched_works}
 use Rattle.file_patch.specs.declared.derived.Target.{Target}
 use Rattle.patch_task.specs.declared.fault.RunFault.{RunFault}
 use Rattle.patch_task.specs.Named.{IsNamed}
@@ -95,15 +96,6 @@ module _ {u w : TreeView} (temp : List ℕ) (is : is_temp temp ≡ true) (works 
 
 pub makes_nothing : {R : Type 0} (u : TreeView) (temp : List ℕ) (x : R) → IsQuiet u → Makes u u (Ok x) temp (λ f. [])
 makes_nothing u temp x quiet = record { ok = λ f told. record { made = made_none u quiet; exact = λ g h was now q ne. ap (λ (z : Files). get z q) (same_Some h g (sym now ∙ was)) }; err = tt }
-
-pub untouched_works : {u w : TreeView} (temp : List ℕ) → IsUntouched u w → IsQuiet u → WorksOn u w temp
-untouched_works {u = u} {w = w} temp same quiet = record {
-  passes = same.passes;
-  quiet = untouched_quiet same quiet;
-  others = λ f g told now q ne. ap (λ (x : Files). get x q) (same_Some _ _ (sym now ∙ same.told ∙ told));
-  seals = λ q ne was. same.sealed q ∙ was;
-  since = λ f told c left. (works_none u temp quiet).since f told c ((same.since u.moment c (omega arith)).0 left);
-}
 
 -- ---- one effect
 effect_made : {R E : Type 0} {u w : TreeView} (temp : List ℕ) (y : R) (e : Effect) → IsQuiet u → MakesEffect {E = E} u w (Ok y) e

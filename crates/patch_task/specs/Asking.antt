@@ -1,24 +1,27 @@
 -- What a file patch asks for by its git header, taken from a side, and what the options leave of that (git-diff(1), "Generating patch text with -p"; POSIX `patch`).
-use Rattle.std.specs.Prelude.{ℕ, List, Bool, true, false, not, ◌&&◌, ◌==◌, if◌then◌else◌, is_none, is_some, Option, None}
+use Rattle.std.specs.Prelude.{ℕ, List, Bool, true, false, not, ◌&&◌, ◌==◌, if◌then◌else◌, is_none, is_some, Option, None, Some}
 use Rattle.std.specs.Option.{option_and_then}
 use Rattle.hunk_core.specs.declared.Side.{Side}
 use Rattle.hunk_core.specs.declared.Side.TheVariants.{Forward, Reversed}
 use Rattle.hunk_core.specs.Turned.{other_side}
 use Rattle.header_record.specs.declared.Action.{Action}
-use Rattle.header_record.specs.declared.Action.TheVariants.{Plain, New, Deleted, Rename, Copy}
+use Rattle.header_record.specs.declared.Action.TheVariants as action
 use Rattle.header_record.specs.Modes.{is_executable}
 use Rattle.patch_options.specs.PlainJob.{PlainOptions}
 use Rattle.file_patch.specs.Actions.{is_moved}
 use Rattle.file_patch.specs.Absent.{is_said_absent}
 use Rattle.file_patch.specs.PlainPatch.{PlainHeader, PlainPatch, hunk_count}
+use Rattle.patch_task.specs.Kinds.{is_link}
+use Rattle.patch_task.specs.declared.kinds.Mode.{Mode}
+use Rattle.patch_task.specs.declared.kinds.Mode.TheVariants.{Output, Kept, Plain, Executable, Link}
 
 -- the file is renamed, so that the name that it had goes
 abbrev pub is_rename : Action → Bool
-is_rename Plain = false
-is_rename New = false
-is_rename Deleted = false
-is_rename Rename = true
-is_rename Copy = false
+is_rename action.Plain = false
+is_rename action.New = false
+is_rename action.Deleted = false
+is_rename action.Rename = true
+is_rename action.Copy = false
 
 -- its file is renamed or copied
 abbrev pub moves : PlainPatch → Bool
@@ -55,6 +58,20 @@ abbrev pub mode_on : Side → PlainHeader → Option (List ℕ)
 mode_on Forward h = h.new_mode
 mode_on Reversed h = h.old_mode
 
--- whether the file that is written may be executed, where a git header tells; an output that the options name isn't that file
-abbrev pub mode_asked : PlainOptions → Side → PlainPatch → Option Bool
-mode_asked o side p = if is_some o.output then None else option_and_then is_executable (mode_on side p.header)
+-- whether a regular file may be executed, where that is told; else it is kept as it is
+abbrev pub mode_by : Option Bool → Mode
+mode_by None = Kept
+mode_by (Some true) = Executable
+mode_by (Some false) = Plain
+
+-- the file gets a mode
+abbrev pub is_set : Mode → Bool
+is_set Output = false
+is_set Kept = false
+is_set Plain = true
+is_set Executable = true
+is_set Link = true
+
+-- what is asked of the file that is written: to be a symbolic link, where a git header says so of one side, or to be a regular file as it says of the side that is taken as new; an output that the options name isn't that file
+abbrev pub mode_asked : PlainOptions → Side → PlainPatch → Mode
+mode_asked o side p = if is_some o.output then Output else if is_link p then Link else mode_by (option_and_then is_executable (mode_on side p.header))

@@ -1,3 +1,4 @@
+pub mod Kinds
 pub mod Asking
 pub mod Turns
 pub mod Ready

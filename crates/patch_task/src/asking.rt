@@ -1,19 +1,15 @@
 //! What a file patch asks for by its git header.
 
 ghost use Rattle.std.specs.Prelude.{◌≡◌, ◌<◌, ◌^◌, ℕ, List};
-ghost use Rattle.std.specs.Option.{option_copied};
 ghost use Rattle.file_patch.specs.Absent.{is_said_absent};
-ghost use Rattle.file_patch.specs.PlainPatch.{header_of, patch_of, row_count};
+ghost use Rattle.file_patch.specs.PlainPatch.{patch_of, row_count};
 ghost use Rattle.patch_options.specs.PlainJob.{plain_options};
-ghost use Rattle.patch_task.specs.Asking.{is_rename, renames, is_bare, acts_new, acts_deleted, other_place, written_place, takes_files, mode_on, mode_asked};
-ghost use Rattle.patch_task.specs.TaskView.{plain_task};
+ghost use Rattle.patch_task.specs.Asking.{is_rename, renames, is_bare, acts_new, acts_deleted, other_place, written_place, takes_files};
 
-use crate::task::Task;
 use file_patch::FilePatch;
-use header_record::{Action, Header, is_executable};
+use header_record::Action;
 use hunk_core::Side;
 use patch_options::Options;
-use patch_set::bytes_in;
 
 /// Whether its file is renamed.
 pub fn renames(patch: &FilePatch) -> bool
@@ -60,30 +56,6 @@ fn is_said_absent(side: Side, action: Action) -> bool
     match side {
         Side::Forward => matches!(action, Action::New),
         Side::Reversed => matches!(action, Action::Deleted),
-    }
-}
-
-/// Whether the file that it writes, taken from this side, may be executed, where its git header tells. An output that the
-/// options name isn't that file.
-pub fn mode_asked(task: &Task<'_>, side: Side) -> Option<bool>
-    ensures { result ≡ mode_asked (plain_task task.now).options side (plain_task task.now).item.patch }
-{
-    if task.options.output.is_some() {
-        return None;
-    }
-    match mode_on(task.set.text(), &task.patch.header, side) {
-        Some(mode) => is_executable(mode),
-        None => None,
-    }
-}
-
-/// What a git header says of the mode of the side that is taken as new.
-fn mode_on<'a>(text: &'a [u8], header: &Header, side: Side) -> Option<&'a [u8]>
-    ensures { option_copied result ≡ mode_on side (header_of text.now header.now) }
-{
-    match side {
-        Side::Forward => bytes_in(text, header.new_mode),
-        Side::Reversed => bytes_in(text, header.old_mode),
     }
 }
 

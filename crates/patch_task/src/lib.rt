@@ -4,14 +4,16 @@
 
 mod asking;
 mod fault;
+mod kinds;
 mod moved;
 mod names;
 mod placed;
 mod sources;
 mod task;
 
-pub use asking::{acts_deleted, acts_new, is_bare, mode_asked, renames, takes_files};
+pub use asking::{acts_deleted, acts_new, is_bare, renames, takes_files};
 pub use fault::RunFault;
+pub use kinds::{Mode, Subject, is_link, mode_asked, subject_of};
 pub use moved::write_moved;
 pub use names::{chosen, shown, shown_reject, target_in, written, written_at};
 pub use placed::{Made, keep_old, write_placed};

@@ -11,8 +11,9 @@ ghost use Rattle.patch_task.specs.Named.{IsBeside, IsNamed};
 ghost use Rattle.patch_task.specs.TargetEffects.{backup_effects, target_effects};
 
 use crate::fault::RunFault;
+use crate::kinds::Mode;
 use file_patch::Target;
-use outside::{Failed, Tree};
+use outside::{Failed, Name, Tree};
 use replace_file::{Temp, copy_backup, put_begun, remove_name};
 
 /// What was done to the tree.
@@ -24,13 +25,14 @@ pub struct Made {
     pub effects: u64,
 }
 
-/// Backs the target up, where that is due, and puts it, as a file that may be executed or not where that is asked, or takes it
-/// away.
+/// Backs the target up, where that is due, and puts it, as what is asked, or takes it away. `from` is the file that it is
+/// made of.
 pub fn write_placed<T: Tree>(
+    from: &Name,
     target: &Target,
     due: bool,
     removal: bool,
-    executable: Option<bool>,
+    mode: Mode,
     temp: Temp<'_>,
     tree: &mut T,
 ) -> Result<Made, RunFault>
@@ -50,7 +52,7 @@ pub fn write_placed<T: Tree>(
     ensures tidy { OnOk result (IsTidy (T.view tree.old) (T.view tree.new)) }
 {
     put_backup(target, due, tree)?;
-    let wrote = put_target(temp, target, removal, executable, tree)?;
+    let wrote = put_target(temp, from, target, removal, mode, tree)?;
     Ok(with_backup(due, wrote))
 }
 
@@ -109,9 +111,10 @@ pub fn put_backup<T: Tree>(target: &Target, due: bool, tree: &mut T) -> Result<(
 /// Puts or takes away the target, and says whether there was an effect.
 fn put_target<T: Tree>(
     temp: Temp<'_>,
+    from: &Name,
     target: &Target,
     removal: bool,
-    executable: Option<bool>,
+    mode: Mode,
     tree: &mut T,
 ) -> Result<bool, RunFault>
     requires named { IsNamed target.now }
@@ -126,7 +129,7 @@ fn put_target<T: Tree>(
     if removal {
         erase(temp, target, tree)
     } else {
-        swap_in(temp, target, executable, tree)
+        swap_in(temp, from, target, mode, tree)
     }
 }
 
@@ -209,11 +212,12 @@ pub fn take_away<T: Tree>(target: &Target, tree: &mut T) -> Result<(), RunFault>
     }
 }
 
-/// Puts the temporary at the target, as a file that may be executed or not, where that is asked.
+/// Puts the temporary at the target, as what is asked.
 pub fn swap_in<T: Tree>(
     mut temp: Temp<'_>,
+    from: &Name,
     target: &Target,
-    executable: Option<bool>,
+    mode: Mode,
     tree: &mut T,
 ) -> Result<bool, RunFault>
     requires named { IsNamed target.now }
@@ -226,16 +230,17 @@ pub fn swap_in<T: Tree>(
     ensures keeps { OnOk result ((q : List ℕ) → q ≢ target.now.name → q ≢ target.now.temp → KeepsAt (T.view tree.old) (T.view tree.new) q) }
     ensures wrote { IfOk result (λ wrote. wrote ≡ true) }
 {
-    match set_mode(&mut temp, executable, tree) {
+    match set_mode(&mut temp, from, mode, tree) {
         Ok(()) => put_filled(temp, target, tree),
         Err(_) => Err(RunFault::Tree),
     }
 }
 
-/// Says whether the temporary's file may be executed, where that is asked.
+/// Says what the temporary's file is to be.
 fn set_mode<T: Tree>(
     temp: &mut Temp<'_>,
-    executable: Option<bool>,
+    from: &Name,
+    mode: Mode,
     tree: &mut T,
 ) -> Result<(), Failed>
     requires { IsThere (T.view tree.old) temp.old.name.now }
@@ -243,9 +248,12 @@ fn set_mode<T: Tree>(
     ensures untouched { IsUntouched (T.view tree.old) (T.view tree.new) }
     ensures cause { OnErr result (Rises (T.view tree.old) (T.view tree.new)) }
 {
-    match executable {
-        Some(executable) => temp.set_executable(tree, executable),
-        None => Ok(()),
+    match mode {
+        Mode::Output => Ok(()),
+        Mode::Kept => temp.set_like(tree, from),
+        Mode::Plain => temp.set_executable(tree, false),
+        Mode::Executable => temp.set_executable(tree, true),
+        Mode::Link => temp.set_link(tree),
     }
 }
 

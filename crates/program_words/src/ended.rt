@@ -34,7 +34,7 @@ pub fn put_texts<R: Files>(
 ) {
     match tool {
         "patch" => put_of_words(lines, rt, words, ended, passed),
-        "patchstack" => put_of_stack(lines, words, ended, passed),
+        "patchstack" => put_of_stack(lines, rt, words, ended, passed),
         "recountdiff" => put_emptied(lines, passed.front()),
         _ => {}
     }
@@ -87,13 +87,19 @@ fn put_taken(lines: &mut Lines, tool: &str, taking: Taking, passed: &Passed) {
     put_modes(lines, tool, taking, passed);
 }
 
-fn put_of_stack(lines: &mut Lines, words: &[String], ended: Ended<'_>, passed: &Passed) {
+fn put_of_stack<R: Files>(
+    lines: &mut Lines,
+    rt: &R,
+    words: &[String],
+    ended: Ended<'_>,
+    passed: &Passed,
+) {
     match ended.why {
         Why::Done | Why::Garbage => put_pushed(lines, words, passed),
         Why::Rejected => {
             put_pushed(lines, words, passed);
             put_line_ends(lines, "patchstack", ended, passed.front(), false);
-            put_stack_skipped(lines, ended.heard, passed);
+            put_stack_skipped(lines, rt, ended.heard, passed);
         }
         _ => {}
     }

@@ -8,7 +8,10 @@ use real_devices::Passed;
 /// The mode of a symbolic link.
 const LINK: &[u8] = b"120000";
 
-/// What becomes of one.
+/// The mode of a submodule, which the run tells of.
+const SUBMODULE: &[u8] = b"160000";
+
+/// What becomes of a link in a stack.
 const AS_FILE: &str = "# is a symbolic link in the patch: a regular file holds its text";
 
 /// How a run takes names and lines.
@@ -34,11 +37,18 @@ fn put_mode(lines: &mut Lines, tool: &str, taking: Taking, header: &[u8], line: 
     if let Some(mode) = mode_in(line, taking.is_reversed) {
         let name = Part::Name(name_in(header, taking));
         if mode == LINK {
-            lines.put_said(tool, AS_FILE, name);
-        } else {
+            put_link(lines, tool, name);
+        } else if mode != SUBMODULE {
             let parts = [Part::Text(tool), Part::Bytes(mode), name];
             lines.put_parts("#: mode # of # isn't carried out\n", &parts);
         }
+    }
+}
+
+/// A stack makes no links.
+fn put_link(lines: &mut Lines, tool: &str, name: Part<'_>) {
+    if tool == "patchstack" {
+        lines.put_said(tool, AS_FILE, name);
     }
 }
 

@@ -206,7 +206,7 @@ fn add_given(text: &mut Lines, name: Option<&[u8]>) {
     }
 }
 
-/// The names that a run looks for.
+/// The same, as they are told.
 fn left_names(alloc: Global, given: Given<'_>, reading: Reading) -> Lines {
     let mut text = Lines::new(alloc);
     match looked_for(alloc, given, reading) {
@@ -222,7 +222,12 @@ fn left_names(alloc: Global, given: Given<'_>, reading: Reading) -> Lines {
     text
 }
 
-fn looked_for(alloc: Global, given: Given<'_>, reading: Reading) -> Result<Vec<Name>, AllocError> {
+/// The names that a run looks for.
+pub fn looked_for(
+    alloc: Global,
+    given: Given<'_>,
+    reading: Reading,
+) -> Result<Vec<Name>, AllocError> {
     if given.is_moved {
         moved_names(alloc, reading.strip, given.old, given.new)
     } else {

@@ -2,7 +2,7 @@
 
 use outside::Name;
 use patch_options::{Input, Job, Options, SyncKind, read_words};
-use real_devices::{Places, Syncs};
+use real_devices::{Kind, Places, Syncs};
 use std::alloc::{AllocError, Global};
 use tool_words::{ToolJob, read_tool_words};
 
@@ -23,7 +23,6 @@ const FILTERS: [&str; 5] = [
 
 /// What the words say, where they are a command. Without memory they say nothing: the run will say so.
 pub fn places_of(alloc: Global, tool: &str, words: &[String]) -> Places {
-    let is_stack = matches!(tool, STACK);
     match read_words(alloc, words) {
         Ok(Job::Patch(options)) => {
             let places = places_in(alloc, &options);
@@ -31,7 +30,11 @@ pub fn places_of(alloc: Global, tool: &str, words: &[String]) -> Places {
             places
         }
         Err(_) => Places {
-            is_stack,
+            kind: if matches!(tool, STACK) {
+                Kind::Stack
+            } else {
+                Kind::Other
+            },
             is_text: matches!(tool, RECOUNT),
             root: None,
             patch: None,
@@ -48,7 +51,7 @@ pub fn places_of(alloc: Global, tool: &str, words: &[String]) -> Places {
 
 fn places_in(alloc: Global, options: &Options) -> Places {
     Places {
-        is_stack: false,
+        kind: Kind::Patch,
         is_text: false,
         root: text_of(alloc, &options.dir),
         patch: patch_file(alloc, options),

@@ -1,11 +1,12 @@
 //! The lines behind a run that left something out, where what was said leaves a question open.
 
 use crate::lines::{Lines, Part};
-use crate::names::{Reading, given_in, is_nameless, put_nameless, put_names};
+use crate::names::{Given, Reading, given_in, is_nameless, looked_for, put_nameless, put_names};
 use crate::places::below;
 use outside::Name;
 use patch_options::Options;
-use real_devices::{Heard, Passed, missing_text};
+use real_devices::{Heard, Passed, missing_text, unreached_text};
+use std::alloc::Global;
 use std::rt::Files;
 
 /// Where the names stand for which no file was found, for a patch of a stack.
@@ -21,16 +22,16 @@ const NO_WAY_BACK: &str =
     "the file patch at input line # is a copy, and -R takes none back: what it made can't be told from a file that was there";
 
 /// Why no file was found for a patch of a stack, and that it keeps no reject files.
-pub fn put_stack_skipped(lines: &mut Lines, heard: Heard, passed: &Passed) {
+pub fn put_stack_skipped<R: Files>(lines: &mut Lines, rt: &R, heard: Heard, passed: &Passed) {
     if let Some(line) = heard.no_file {
-        put_stack_unfound(lines, passed.front(), line);
+        put_stack_unfound(lines, rt, passed.front(), line);
     }
     if heard.rejects {
         lines.put_said("patchstack", NO_REJECTS, Part::Text(passed.file()));
     }
 }
 
-fn put_stack_unfound(lines: &mut Lines, front: &[u8], line: u64) {
+fn put_stack_unfound<R: Files>(lines: &mut Lines, rt: &R, front: &[u8], line: u64) {
     let given = given_in(front, line);
     if is_nameless(given) {
         put_nameless(lines, "patchstack", line);
@@ -40,7 +41,9 @@ fn put_stack_unfound(lines: &mut Lines, front: &[u8], line: u64) {
             is_posix: false,
             is_reversed: false,
         };
-        lines.put_said("patchstack", NO_FILE, Part::Number(line));
+        if !put_unreached(lines, rt, "patchstack", &None, reading, given) {
+            lines.put_said("patchstack", NO_FILE, Part::Number(line));
+        }
         put_names(lines, "patchstack", reading, given);
     }
 }
@@ -57,12 +60,12 @@ pub fn put_skipped<R: Files>(
     if let Some(file) = &options.file {
         put_operand(lines, rt, options, file);
     } else if let Some(line) = heard.no_file {
-        put_unfound(lines, options, passed.front(), line);
+        put_unfound(lines, rt, options, passed.front(), line);
     }
 }
 
 /// Why none was found for the file patch whose opening is this line.
-fn put_unfound(lines: &mut Lines, options: &Options, front: &[u8], line: u64) {
+fn put_unfound<R: Files>(lines: &mut Lines, rt: &R, options: &Options, front: &[u8], line: u64) {
     let given = given_in(front, line);
     if is_nameless(given) {
         put_nameless(lines, "patch", line);
@@ -74,8 +77,52 @@ fn put_unfound(lines: &mut Lines, options: &Options, front: &[u8], line: u64) {
             is_posix: options.posix,
             is_reversed: options.reverse,
         };
-        put_unnamed(lines, options, line);
+        if !put_unreached(lines, rt, "patch", &options.dir, reading, given) {
+            put_unnamed(lines, options, line);
+        }
         put_names(lines, "patch", reading, given);
+    }
+}
+
+/// Which names that were looked for the system doesn't let be looked at, and why. It answers whether there is one.
+fn put_unreached<R: Files>(
+    lines: &mut Lines,
+    rt: &R,
+    tool: &str,
+    dir: &Option<Name>,
+    reading: Reading,
+    given: Given<'_>,
+) -> bool {
+    let mut told = Lines::new(lines.alloc);
+    if let Ok(names) = looked_for(lines.alloc, given, reading) {
+        for name in &names {
+            if let Some(text) = unreached_below(lines.alloc, rt, dir, name) {
+                let mut line = Lines::new(lines.alloc);
+                line.put_line(tool, text.as_str());
+                if !told.is_same(&line) {
+                    told.put_made(&line);
+                }
+            }
+        }
+    }
+    lines.put_made(&told);
+    !told.text().is_empty()
+}
+
+/// Why the system doesn't let the name below the directory be looked at. Without memory that is nothing.
+fn unreached_below<R: Files>(
+    alloc: Global,
+    rt: &R,
+    dir: &Option<Name>,
+    name: &Name,
+) -> Option<String> {
+    let below = match dir {
+        Some(dir) => name.below(alloc, dir),
+        None => name.copy(alloc),
+    };
+    match below {
+        Ok(name) => unreached_text(alloc, rt, &name).unwrap_or(None),
+        Err(_) => None,
     }
 }
 
@@ -101,7 +148,7 @@ fn put_unnamed(lines: &mut Lines, options: &Options, line: u64) {
         None => ("", "here"),
     };
     lines.put_parts(
-        "patch: the file patch at input line # names no regular file ## (a link doesn't count); ",
+        "patch: the file patch at input line # names no file ## (a link on the way isn't followed); ",
         &[Part::Number(line), Part::Text(before), Part::Text(place)],
     );
     match options.strip {

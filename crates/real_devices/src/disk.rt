@@ -5,7 +5,7 @@ use crate::faults::Faults;
 use crate::line_ends::LineEnds;
 use crate::passed::Passed;
 use outside::{Failed, Name, Tree};
-use real_files::{OpenFiles, Path, Syncs, Trouble};
+use real_files::{Kind, OpenFiles, Path, Syncs, Trouble};
 use std::alloc::{AllocError, Global};
 use std::fs::File;
 use std::io;
@@ -17,8 +17,8 @@ const LARGEST_TEXT: u64 = 1_048_576;
 /// What the words of a run say of its tree.
 #[derive(Drop)]
 pub struct Places {
-    /// Whether it is that of a stack of patches.
-    pub is_stack: bool,
+    /// Whose it is.
+    pub kind: Kind,
     /// Whether each file that is read has a patch text.
     pub is_text: bool,
     /// The directory that the run works in, where the operator gives one.
@@ -66,8 +66,8 @@ impl<'r, R: Files<File = File>> Disk<'r, R> {
         temporary: &str,
         standard: Stdout,
     ) -> Result<Disk<'r, R>, AllocError> {
-        let (is_stack, syncs, follows) = (places.is_stack, places.syncs, places.follows);
-        let files = match OpenFiles::new(alloc, rt, is_stack, syncs, follows, temporary, standard) {
+        let (kind, syncs, follows) = (places.kind, places.syncs, places.follows);
+        let files = match OpenFiles::new(alloc, rt, kind, syncs, follows, temporary, standard) {
             Ok(files) => files,
             Err(error) => return Err(error),
         };
@@ -76,7 +76,7 @@ impl<'r, R: Files<File = File>> Disk<'r, R> {
             faults: Faults::new(alloc),
             seen: Seen {
                 places,
-                passed: Passed::new(alloc, is_stack),
+                passed: Passed::new(alloc, kind.is_stack()),
                 ends: LineEnds::new(alloc),
             },
         })
@@ -154,7 +154,9 @@ impl Seen {
             self.passed.whole(front);
             return;
         }
-        if self.places.is_stack && (name.starts_with("patches/") || name.starts_with(".pc/")) {
+        if self.places.kind.is_stack()
+            && (name.starts_with("patches/") || name.starts_with(".pc/"))
+        {
             return;
         }
         self.ends.note(name, front);
@@ -166,7 +168,9 @@ fn is_patch(places: &Places, name: &str) -> bool {
     match &places.patch {
         Some(patch) => patch.text() == name,
         None if places.is_text => true,
-        None => places.is_stack && name.starts_with("patches/") && name != "patches/series",
+        None => {
+            places.kind.is_stack() && name.starts_with("patches/") && name != "patches/series"
+        }
     }
 }
 
@@ -210,6 +214,11 @@ fn begun<'a, R: Files<File = File>>(
     let output = found_output(files, &places.output, places.is_standard);
     if output.1.is_err() {
         return output;
+    }
+    if let Some(output) = &places.output {
+        if let Err(error) = files.find_replaced(Path::of(output), places.follows) {
+            return (output.text(), Err(error));
+        }
     }
     found_output(files, &places.rejects, false)
 }
@@ -265,7 +274,8 @@ impl<'r, R: Files<File = File>> Tree for Disk<'r, R> {
 
     fn start(&mut self, temp: &Name) -> Result<(), Failed> {
         let done = self.files.start(Path::of(temp));
-        self.faults.answer(temp.text(), done)
+        let blamed = self.files.blamed_in_start(Path::of(temp), done.is_err());
+        self.faults.answer(blamed, done)
     }
 
     fn append(&mut self, temp: &Name, piece: &[u8]) -> Result<(), Failed> {

@@ -15,5 +15,5 @@ pub use heard::Heard;
 pub use line_ends::LineEnds;
 pub use pages::Pages;
 pub use passed::Passed;
-pub use real_files::{Syncs, Trouble, missing_text};
+pub use real_files::{Kind, Syncs, Trouble, missing_text, unreached_text};
 pub use streams::{Input, Output};

@@ -12,7 +12,7 @@ const LONGEST: usize = 8_192;
 /// How a text is looked through.
 #[derive(Clone, Copy)]
 struct Look {
-    /// Whether it is a patch of a stack, where a file that is there keeps its mode.
+    /// Whether it is a patch of a stack, where a file that is there keeps its mode, and no link is made.
     is_stack: bool,
     /// Whether nothing follows.
     is_end: bool,
@@ -105,7 +105,11 @@ fn modes_end(look: Look, header: &[u8]) -> Option<usize> {
     let second = line_end(header, first)?;
     let line = header.get(first..second).unwrap_or(&[]);
     if !line.starts_with(b"old mode ") {
-        return Some(if is_no_file(line) { second } else { 0 });
+        return Some(if look.is_stack && is_no_file(line) {
+            second
+        } else {
+            0
+        });
     }
     if !look.is_stack {
         return Some(0);

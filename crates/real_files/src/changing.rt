@@ -4,7 +4,7 @@ use crate::files::OpenFiles;
 use crate::found::Found;
 use crate::fresh::{make_beside, rights_due};
 use crate::origins::{Grant, usual};
-use crate::paths::{Path, no_file, regular, replaceable, target_of};
+use crate::paths::{Path, no_file, replaceable, target_of, with_bytes};
 use crate::rights::give;
 use crate::spots::Place;
 use std::fs::File;
@@ -94,12 +94,12 @@ impl<'r, R: Files<File = File>> OpenFiles<'r, R> {
         self.temporaries.set_executable(temp.text, executable)
     }
 
-    /// Keeps that it becomes a link, once it is put at a name.
+    /// Keeps that it becomes a link, which it is from its seal on. A stack has none: its saves don't tell them from files.
     pub fn set_link(&mut self, temp: Path<'_>) -> io::Result<()> {
-        self.temporaries.set_link(temp.text)
+        self.temporaries.set_link(temp.text, !self.kind.is_stack())
     }
 
-    /// Writes what was gathered, gives the file its rights, and syncs it. Where that fails, the file is taken away.
+    /// Writes what was gathered, gives the file its rights, and syncs it, or makes a link of it. Where that fails, it is taken away.
     pub fn seal(&mut self, temp: Path<'_>) -> io::Result<()> {
         let done = self.sealed(temp);
         self.give_up(temp, done.is_err());
@@ -111,24 +111,36 @@ impl<'r, R: Files<File = File>> OpenFiles<'r, R> {
             return Err(no_file());
         };
         self.writing.flush(&mut self.temporaries)?;
-        let Some(temporary) = self.temporaries.get_mut(number) else {
+        self.settle_kind(number, temp)?;
+        if let Some(temporary) = self.temporaries.get_mut(number) {
+            temporary.close();
+        }
+        Ok(())
+    }
+
+    /// Makes of a temporary what it is to be. One of an output has no name.
+    fn settle_kind(&mut self, number: usize, temp: Path<'_>) -> io::Result<()> {
+        let Some(temporary) = self.temporaries.get(number) else {
             return Err(no_file());
         };
         let Some(file) = &temporary.file else {
             return Err(no_file());
         };
-        if !temporary.is_nameless() {
-            give(file, temporary.rights())?;
-            if self.syncs.are_made() {
-                file.sync_all()?;
-            }
+        if temporary.is_nameless() {
+            return Ok(());
         }
-        temporary.close();
+        if temporary.is_link {
+            return self.make_link(number, temp);
+        }
+        give(file, temporary.rights())?;
+        if self.syncs.are_made() {
+            file.sync_all()?;
+        }
         Ok(())
     }
 
-    /// Renames the temporary. Nothing but a regular file is ever replaced, and no name changes while another temporary is being
-    /// filled that can't take its own.
+    /// Renames the temporary. A file alone is replaced by a file, and a link by a link, and no name changes while another temporary is
+    /// being filled that can't take its own.
     pub fn swap(&mut self, temp: Path<'_>, to: Path<'_>) -> io::Result<()> {
         self.reading.close(temp.text);
         self.reading.close(to.text);
@@ -145,10 +157,10 @@ impl<'r, R: Files<File = File>> OpenFiles<'r, R> {
         };
         self.directories.will_change(self.rt, from)?;
         self.directories.will_change(self.rt, to)?;
-        replaceable(self.directories.look(self.rt, to))?;
         let Some(temporary) = self.temporaries.get(number) else {
             return Err(no_file());
         };
+        replaceable(self.directories.look(self.rt, to), temporary.is_link)?;
         let real = from.beside(temporary.real.as_str());
         self.directories.rename(self.rt, real, to)?;
         self.looks.forget();
@@ -169,7 +181,7 @@ impl<'r, R: Files<File = File>> OpenFiles<'r, R> {
         Ok(())
     }
 
-    /// Whether the temporary that is being filled, if there is one, can take its name.
+    /// Whether the temporary that is being filled, if there is one, can take its name. That it becomes a link is said at its end.
     fn check_filled(&mut self) -> io::Result<()> {
         let Some(target) = self.temporaries.last_target() else {
             return Ok(());
@@ -178,7 +190,10 @@ impl<'r, R: Files<File = File>> OpenFiles<'r, R> {
             return Ok(());
         }
         match self.directories.open_way(self.rt, target, false) {
-            Ok(place) => replaceable(self.directories.look(self.rt, place)),
+            Ok(place) => match self.directories.look(self.rt, place) {
+                Ok(found) => replaceable(Ok(found), found.is_link && self.kind.is_patch()),
+                Err(error) => Err(error),
+            },
             Err(error) => Err(error),
         }
     }
@@ -238,6 +253,15 @@ impl<'r, R: Files<File = File>> OpenFiles<'r, R> {
         }
     }
 
+    /// The name to be told where a temporary could not be started: for an output that is written through it is made elsewhere.
+    pub fn blamed_in_start<'a>(&'a self, temp: Path<'a>, failed: bool) -> &'a str {
+        if failed && self.outlets.has(target_of(temp).text) {
+            self.outlets.directory()
+        } else {
+            temp.text
+        }
+    }
+
     /// Takes a name away, and in time the directories that it leaves empty. None that is for temporaries alone is taken from a file
     /// of the user's.
     pub fn remove(&mut self, name: Path<'_>) -> io::Result<()> {
@@ -253,7 +277,7 @@ impl<'r, R: Files<File = File>> OpenFiles<'r, R> {
             Err(error) => return Err(error),
         };
         self.directories.will_change(self.rt, place)?;
-        let found = match regular(self.directories.look(self.rt, place)) {
+        let found = match with_bytes(self.directories.look(self.rt, place)) {
             Ok(found) => found,
             Err(error) => return Err(error),
         };

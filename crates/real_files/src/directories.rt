@@ -6,9 +6,9 @@
 
 use crate::found::{Found, Identity, found_at_path, found_behind, told};
 use crate::held::AllHeld;
-use crate::paths::{Path, not_a_directory, too_long};
+use crate::paths::{PERMISSION_DENIED, Path, not_a_directory, too_long};
 use crate::rights::Rights;
-use crate::spots::{PERMISSION_DENIED, Place, Spot, is_too_many, passed, put_front};
+use crate::spots::{Place, Spot, is_too_many, passed, put_front, unsynced};
 use crate::text::{LONGEST_PATH, Text};
 use std::alloc::{AllocError, Global};
 use std::fs::{File, OpenFile};
@@ -281,9 +281,9 @@ impl Directories {
             Some(place) => place,
             None if spot.walked == 0 => match self.working_directory(rt) {
                 Ok(place) => place,
-                Err(error) => return Err(error),
+                Err(error) => return Err(unsynced(error)),
             },
-            None => return Err(io::Error::from_raw_os_error(spot.refusal)),
+            None => return Err(unsynced(io::Error::from_raw_os_error(spot.refusal))),
         };
         self.held.change(place);
         Ok(())

@@ -1,25 +1,27 @@
 //! The files: what is open, what is gathered, and whose rights each new file gets.
 //!
-//! Links are followed in the part of a name that the operator gave, and nowhere else: else a name that is one, or that goes through
-//! one, is no file here, and nothing is written below it. What is written is never a link itself.
+//! Links are followed in the part of a name that the operator gave, and nowhere else. To `patch` a name that is one is there, as its
+//! text; to the other tools it is no file. A name that goes through one is no file, and nothing is written below it. A link is
+//! replaced by a link alone, and a file by a file.
 //!
 //! A temporary goes by its file's name with `.ptmp` behind it, and stands under another name that no file has. So a file of the
 //! user's that is so named is read as any other.
 //!
-//! A pipe or a device is no file either, but where the operator gave its name for a text: then it is read to its end.
+//! A pipe or a device has no bytes, but where the operator gave its name for a text: then it is read to its end.
 ghost use Rattle.std.specs.Prelude.{◌≤◌, length, IfOk};
 
 use crate::directories::{Directories, Syncs};
 use crate::emptied::Emptied;
 use crate::found::{Found, found_behind, found_itself, told};
+use crate::kind::Kind;
 use crate::looks::Looks;
 use crate::missing::Missing;
 use crate::outlets::Outlets;
 use crate::paths::{
-    Path, no_file, not_a_directory, not_a_file, or_out_of_reach, regular, target_of,
+    Path, no_file, no_way, not_a_directory, not_a_file, or_out_of_reach, target_of, with_bytes,
 };
 use crate::pipes::{Pipes, part_of};
-use crate::reading::{Reading, Seen};
+use crate::reading::{Content, Reading, Seen};
 use crate::saves::Saves;
 use crate::spots::Place;
 use crate::temporaries::Temporaries;
@@ -32,7 +34,8 @@ use std::rt::{Files, Stdout};
 #[derive(Drop)]
 pub struct OpenFiles<'r, R: Files<File = File>> {
     pub(crate) rt: &'r R,
-    pub(crate) is_stack: bool,
+    pub(crate) alloc: Global,
+    pub(crate) kind: Kind,
     pub(crate) syncs: Syncs,
     pub(crate) reading: Reading,
     pub(crate) pipes: Pipes,
@@ -53,7 +56,7 @@ impl<'r, R: Files<File = File>> OpenFiles<'r, R> {
     pub fn new(
         alloc: Global,
         rt: &'r R,
-        is_stack: bool,
+        kind: Kind,
         syncs: Syncs,
         follows: bool,
         temporary: &str,
@@ -69,12 +72,13 @@ impl<'r, R: Files<File = File>> OpenFiles<'r, R> {
         let emptied = Emptied::new(alloc)?;
         Ok(OpenFiles {
             rt,
-            is_stack,
+            alloc,
+            kind,
             syncs,
             reading,
             pipes: Pipes::new(alloc),
             writing,
-            saves: Saves::new(alloc, is_stack),
+            saves: Saves::new(alloc, kind.is_stack()),
             temporaries,
             looks,
             missing,
@@ -128,7 +132,18 @@ impl<'r, R: Files<File = File>> OpenFiles<'r, R> {
         self.find_given(name)
     }
 
-    /// The size of a text, which may come from a pipe or a device where the operator gave its name.
+    /// The same of one that is put, whatever comes: no link that isn't followed is replaced.
+    pub fn find_replaced(&self, name: Path<'_>, follows: bool) -> io::Result<()> {
+        if follows || self.outlets.has(name.text) {
+            return Ok(());
+        }
+        match found_itself(self.rt, name.text) {
+            Ok(found) if found.is_link => Err(not_a_file(found)),
+            _ => Ok(()),
+        }
+    }
+
+    /// The size of a text, a file's or, where the operator gave its name, what a pipe or a device gives.
     pub fn size_of_text(&mut self, name: Path<'_>) -> io::Result<Option<u64>> {
         let is_read = self.pipes.length(name.text).is_some();
         if !is_read && name.is_given() {
@@ -138,7 +153,7 @@ impl<'r, R: Files<File = File>> OpenFiles<'r, R> {
                 Err(error) => return Err(error),
             }
         }
-        self.size(name)
+        self.size_of(name, false)
     }
 
     fn read_pipe(&mut self, name: Path<'_>) -> io::Result<Option<u64>> {
@@ -152,7 +167,13 @@ impl<'r, R: Files<File = File>> OpenFiles<'r, R> {
         }
     }
 
+    /// The size of what stands at a name.
     pub fn size(&mut self, name: Path<'_>) -> io::Result<Option<u64>> {
+        self.size_of(name, self.kind.is_patch())
+    }
+
+    /// The same, where no file alone has one, or `all` have.
+    fn size_of(&mut self, name: Path<'_>, all: bool) -> io::Result<Option<u64>> {
         if let Some(length) = self.pipes.length(name.text) {
             return Ok(Some(length));
         }
@@ -160,7 +181,7 @@ impl<'r, R: Files<File = File>> OpenFiles<'r, R> {
         if is_idle && self.looks.was_read {
             self.looks.forget();
         }
-        if self.outlets.is_standard(name.text) {
+        if self.outlets.has(name.text) {
             return Ok(None);
         }
         let found = match self.look(name) {
@@ -169,8 +190,11 @@ impl<'r, R: Files<File = File>> OpenFiles<'r, R> {
         };
         self.saves.look(name.text, found);
         self.temporaries.saw(found, false);
-        if found.is_file {
-            return Ok(Some(found.length));
+        if found.is_file || (found.is_there && all) {
+            return Ok(Some(found.size()));
+        }
+        if self.saves.is_own(name.text) && found.is_in_the_way() {
+            return Err(no_way(found));
         }
         self.missing.note(name);
         Ok(None)
@@ -181,11 +205,8 @@ impl<'r, R: Files<File = File>> OpenFiles<'r, R> {
         if self.outlets.has(name.text) {
             return Ok(false);
         }
-        if let Some(found) = self.looks.kept(name) {
-            return Ok(found.is_barring(link));
-        }
-        match self.directories.found(self.rt, name) {
-            Ok(found) => Ok(found.is_barring(link)),
+        match self.look(name) {
+            Ok(found) => Ok(found.is_barring(link && !self.kind.is_stack())),
             Err(error) => Err(error),
         }
     }
@@ -202,7 +223,9 @@ impl<'r, R: Files<File = File>> OpenFiles<'r, R> {
             Ok(found) => found,
             Err(error) => return Err(error),
         };
-        self.looks.keep(name, found);
+        if !found.is_closed {
+            self.looks.keep(name, found);
+        }
         Ok(found)
     }
 
@@ -215,7 +238,7 @@ impl<'r, R: Files<File = File>> OpenFiles<'r, R> {
         match self.temporaries.get(number) {
             Some(temporary) => {
                 let real = place.beside(temporary.real.as_str());
-                self.directories.look(self.rt, real)
+                self.directories.look_itself(self.rt, real)
             }
             None => Err(no_file()),
         }
@@ -252,7 +275,7 @@ impl<'r, R: Files<File = File>> OpenFiles<'r, R> {
             return Ok(seen);
         }
         for _ in 0..2 {
-            let found = match regular(self.look(name)) {
+            let found = match with_bytes(self.look(name)) {
                 Ok(found) => found,
                 Err(error) => return Err(error),
             };
@@ -265,12 +288,15 @@ impl<'r, R: Files<File = File>> OpenFiles<'r, R> {
         Err(no_file())
     }
 
-    /// Opens a file that was seen, if it is still there.
+    /// Opens a file that was seen, if it is still there, or reads a link's text.
     fn opened(&mut self, name: Path<'_>, meant: Found) -> io::Result<Option<Seen>> {
         let place = match self.reached(name) {
             Ok(place) => place,
             Err(error) => return Err(error),
         };
+        if meant.is_link {
+            return self.opened_link(name, place, meant);
+        }
         let mut how = OpenOptions::new();
         how.read(true);
         let opened = match self.temporaries.find(name.text) {
@@ -294,19 +320,19 @@ impl<'r, R: Files<File = File>> OpenFiles<'r, R> {
         if !found.identity.is_same(meant.identity) {
             return Ok(None);
         }
-        let audience = if self.is_stack {
+        let audience = if self.kind.is_stack() {
             place.spot.inside.met(found.rights)
         } else {
             found.rights
         };
         let seen = Seen { found, audience };
-        self.reading.keep(name.text, file, seen)?;
+        self.reading.keep(name.text, Content::File(file), seen)?;
         Ok(Some(seen))
     }
 
     /// How a name is reached that is to be read. The system itself goes the way of one that the operator gave whole.
     fn reached<'a>(&mut self, name: Path<'a>) -> io::Result<Place<'a>> {
-        if name.is_given() && !self.is_stack {
+        if name.is_given() && !self.kind.is_stack() {
             return Ok(Place::as_given(name));
         }
         self.directories.open_way(self.rt, name, false)

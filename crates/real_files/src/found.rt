@@ -35,6 +35,8 @@ pub struct Found {
     pub is_link: bool,
     /// Nothing is there, since something on the way is no directory.
     pub is_cut_off: bool,
+    /// What is there isn't told, since it can't be reached.
+    pub is_closed: bool,
     pub identity: Identity,
     pub rights: Rights,
     pub length: u64,
@@ -47,17 +49,20 @@ impl Found {
         is_directory: false,
         is_link: false,
         is_cut_off: false,
+        is_closed: false,
         identity: Identity::HERE,
         rights: Rights::NONE,
         length: 0,
     };
 
-    /// What is told of what stands there, where that is no regular file.
+    /// What is told of what stands there.
     pub fn kind(self) -> &'static str {
         if self.is_directory {
             "is a directory"
         } else if self.is_link {
             "is a symbolic link"
+        } else if self.is_file {
+            "is a regular file"
         } else if self.is_there {
             "not a regular file"
         } else {
@@ -67,8 +72,28 @@ impl Found {
 
     /// Whether no file can be put in its place, or no link.
     pub fn is_barring(self, link: bool) -> bool {
+        self.is_cut_off || self.is_other(link)
+    }
+
+    /// Whether something is there that is no file, or no link where one is meant.
+    pub fn is_other(self, link: bool) -> bool {
         let is_meant = if link { self.is_link } else { self.is_file };
-        self.is_cut_off || (self.is_there && !is_meant)
+        self.is_there && !is_meant
+    }
+
+    /// Whether something stands in the way of it.
+    pub fn is_in_the_way(self) -> bool {
+        self.is_there || self.is_cut_off || self.is_closed
+    }
+
+    /// Whether it has bytes: those of a file, or a link's text.
+    pub fn has_bytes(self) -> bool {
+        self.is_file || self.is_link
+    }
+
+    /// How many bytes it has. Of a directory, a pipe or a device that is none.
+    pub fn size(self) -> u64 {
+        if self.has_bytes() { self.length } else { 0 }
     }
 
     /// Whether it is a pipe or a device.
@@ -105,6 +130,7 @@ pub fn told(answer: io::Result<Metadata>) -> io::Result<Found> {
             is_directory: found.is_dir(),
             is_link: found.is_symlink(),
             is_cut_off: false,
+            is_closed: false,
             identity: Identity {
                 device: found.dev(),
                 number: found.ino(),

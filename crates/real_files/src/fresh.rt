@@ -52,6 +52,31 @@ pub fn make_beside<R: Files<File = File>>(
     Err(io::Error::from(ErrorKind::AlreadyExists))
 }
 
+/// Makes a link with this text beside the file that it is for, in the same way.
+pub fn link_beside<R: Files<File = File>>(
+    rt: &R,
+    directories: &mut Directories,
+    place: Place<'_>,
+    last: &str,
+    name: &mut Text,
+    text: &str,
+) -> io::Result<()> {
+    for number in 1..MOST_NAMES {
+        name.clear();
+        name.add(".")?;
+        put_name(name, front_of(last), number)?;
+        match directories.link(rt, text, place.beside(name.as_str())) {
+            Ok(()) => return Ok(()),
+            Err(error) => {
+                if !matches!(error.kind(), ErrorKind::AlreadyExists) {
+                    return Err(error);
+                }
+            }
+        }
+    }
+    Err(io::Error::from(ErrorKind::AlreadyExists))
+}
+
 fn put_name(name: &mut Text, front: &str, number: u32) -> io::Result<()> {
     name.add(front)?;
     name.add(".")?;

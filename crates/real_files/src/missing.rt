@@ -59,6 +59,19 @@ pub fn missing_text<R: Files>(
     text_at(alloc, rt, Path::of(name))
 }
 
+/// The same where the system doesn't let the name be looked at, else nothing.
+pub fn unreached_text<R: Files>(
+    alloc: Global,
+    rt: &R,
+    name: &Name,
+) -> Result<Option<String>, AllocError> {
+    let path = Path::of(name);
+    match found_at_path(rt, path.text, path.is_given()) {
+        Ok(_) => Ok(None),
+        Err(error) => trouble_text(alloc, path.text, error),
+    }
+}
+
 fn text_at<R: Files>(alloc: Global, rt: &R, path: Path<'_>) -> Result<Option<String>, AllocError> {
     let found = match found_at_path(rt, path.text, path.is_given()) {
         Ok(found) => found,

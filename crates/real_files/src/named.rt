@@ -4,7 +4,9 @@ use crate::directories::Directories;
 use crate::found::{Found, found_behind, found_itself};
 use crate::paths::{Path, or_out_of_reach};
 use crate::spots::{Place, is_too_many, put_path};
+use std::alloc::Global;
 use std::fs::{File, OpenOptions};
+use std::os::unix::fs::symlink;
 use std::rt::Files;
 use std::{fs, io};
 
@@ -26,11 +28,45 @@ impl Directories {
 
     /// What stands there itself, a link and not what it points to, but where links are followed.
     pub fn look<R: Files<File = File>>(&mut self, rt: &R, place: Place<'_>) -> io::Result<Found> {
-        put_path(&self.held, place, &mut self.path)?;
-        match found_itself(rt, self.path.as_str()) {
+        match self.look_itself(rt, place) {
             Ok(found) if found.is_link && self.follows => found_behind(rt, self.path.as_str()),
             found => found,
         }
+    }
+
+    /// What stands there itself.
+    pub fn look_itself<R: Files<File = File>>(
+        &mut self,
+        rt: &R,
+        place: Place<'_>,
+    ) -> io::Result<Found> {
+        put_path(&self.held, place, &mut self.path)?;
+        found_itself(rt, self.path.as_str())
+    }
+
+    /// The text of a link.
+    pub fn link_text<R: Files<File = File>>(
+        &mut self,
+        rt: &R,
+        alloc: Global,
+        place: Place<'_>,
+    ) -> io::Result<String> {
+        put_path(&self.held, place, &mut self.path)?;
+        match rt.read_link(alloc, self.path.as_str()) {
+            Ok(text) => Ok(text.into_string()),
+            Err(error) => Err(error),
+        }
+    }
+
+    /// Makes a link with this text, where nothing has the name.
+    pub fn link<R: Files<File = File>>(
+        &mut self,
+        rt: &R,
+        text: &str,
+        place: Place<'_>,
+    ) -> io::Result<()> {
+        put_path(&self.held, place, &mut self.path)?;
+        symlink(rt, text, self.path.as_str())
     }
 
     pub fn open<R: Files<File = File>>(

@@ -98,6 +98,11 @@ impl Outlets {
         }
     }
 
+    /// Where their temporaries are made.
+    pub fn directory(&self) -> &str {
+        self.directory.as_str()
+    }
+
     /// Makes a temporary that has no name.
     pub fn make<R: Files<File = File>>(&self, rt: &R, path: &mut Text) -> io::Result<File> {
         make_nameless(rt, self.directory.as_str(), path)

@@ -8,6 +8,10 @@ use std::io::ErrorKind;
 /// The system's number for a path that is too long.
 const NAME_TOO_LONG: i32 = 36;
 
+pub const PERMISSION_DENIED: i32 = 13;
+
+const CUT_OFF: &str = "what is on the way to it is no directory (a symbolic link isn't followed)";
+
 /// A name, or a directory that it goes through.
 #[derive(Clone, Copy)]
 pub struct Path<'a> {
@@ -70,25 +74,28 @@ pub fn or_out_of_reach(found: io::Result<Found>) -> io::Result<Found> {
         Ok(found) => Ok(found),
         Err(error) => match error.kind() {
             ErrorKind::InvalidFilename | ErrorKind::PermissionDenied | ErrorKind::FilesystemLoop =>
-                Ok(Found::NOTHING),
+                Ok(Found {
+                    is_closed: true,
+                    ..Found::NOTHING
+                }),
             _ => Err(error),
         },
     }
 }
 
-/// Whether what was found may be replaced: where it is anything but a regular file, a link too, that is an error.
-pub fn replaceable(found: io::Result<Found>) -> io::Result<()> {
+/// Whether a file may be put in the place of what was found, or a link: where anything else stands there that is an error.
+pub fn replaceable(found: io::Result<Found>, link: bool) -> io::Result<()> {
     match found {
-        Ok(found) if found.is_there && !found.is_file => Err(not_a_file(found)),
+        Ok(found) if found.is_other(link) => Err(not_a_file(found)),
         Ok(_) => Ok(()),
         Err(error) => Err(error),
     }
 }
 
-/// What was found, or the error where that is no regular file.
-pub fn regular(found: io::Result<Found>) -> io::Result<Found> {
+/// What was found, or the error where that is neither a regular file nor a link.
+pub fn with_bytes(found: io::Result<Found>) -> io::Result<Found> {
     match found {
-        Ok(found) if found.is_file => Ok(found),
+        Ok(found) if found.has_bytes() => Ok(found),
         Ok(_) => Err(no_file()),
         Err(error) => Err(error),
     }
@@ -107,7 +114,7 @@ pub fn no_file() -> io::Error {
     io::Error::new(ErrorKind::NotFound, "No such file or directory")
 }
 
-/// The answer where this stands in place of a regular file.
+/// The answer where this stands in place of what is meant.
 pub fn not_a_file(found: Found) -> io::Error {
     io::Error::new(ErrorKind::AlreadyExists, found.kind())
 }
@@ -115,6 +122,17 @@ pub fn not_a_file(found: Found) -> io::Error {
 /// The answer where something on the way is no directory.
 pub fn not_a_directory() -> io::Error {
     io::Error::new(ErrorKind::NotADirectory, "Not a directory")
+}
+
+/// The answer where a file that is kept for the run isn't found, since its way isn't open to it.
+pub fn no_way(found: Found) -> io::Error {
+    if found.is_closed {
+        io::Error::from_raw_os_error(PERMISSION_DENIED)
+    } else if found.is_cut_off {
+        io::Error::new(ErrorKind::NotADirectory, CUT_OFF)
+    } else {
+        not_a_file(found)
+    }
 }
 
 /// The answer where a path is longer than the system takes.

@@ -1,8 +1,9 @@
-//! The file that was read last. It stays open for its next piece.
+//! The file that was read last, or the link. It stays open for its next piece.
 ghost use Rattle.std.specs.Prelude.{◌≤◌, length, IfOk};
 
 use crate::found::Found;
 use crate::paths::no_file;
+use crate::pipes::part_of;
 use crate::rights::Rights;
 use crate::text::{LONGEST_PATH, Text};
 use std::alloc::{AllocError, Global};
@@ -19,9 +20,17 @@ pub struct Seen {
     pub audience: Rights,
 }
 
+/// Where its bytes are.
+#[derive(Drop)]
+pub enum Content {
+    File(File),
+    /// The text of a link.
+    Text(String),
+}
+
 #[derive(Drop)]
 struct Open {
-    file: File,
+    content: Content,
     seen: Seen,
 }
 
@@ -38,11 +47,11 @@ impl Reading {
         Ok(Reading { name, open: None })
     }
 
-    /// Keeps a file open that has this name.
-    pub fn keep(&mut self, name: &str, file: File, seen: Seen) -> io::Result<()> {
+    /// Keeps what has this name.
+    pub fn keep(&mut self, name: &str, content: Content, seen: Seen) -> io::Result<()> {
         self.open = None;
         self.name.set(name)?;
-        self.open = Some(Open { file, seen });
+        self.open = Some(Open { content, seen });
         Ok(())
     }
 
@@ -66,7 +75,10 @@ impl Reading {
         ensures { IfOk result (λ n. n ≤ length buf.old) }
     {
         match &self.open {
-            Some(open) => read_whole(&open.file, at, buf),
+            Some(open) => match &open.content {
+                Content::File(file) => read_whole(file, at, buf),
+                Content::Text(text) => Ok(part_of(text.as_bytes(), at, buf)),
+            },
             None => Err(no_file()),
         }
     }

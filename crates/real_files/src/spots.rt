@@ -1,7 +1,7 @@
 //! How far the way to a name has gone, and the path that leads on from there.
 
 use crate::held::AllHeld;
-use crate::paths::Path;
+use crate::paths::{PERMISSION_DENIED, Path};
 use crate::rights::Rights;
 use crate::text::Text;
 use std::io;
@@ -10,7 +10,7 @@ use std::io::ErrorKind;
 /// The system's numbers for too many open files, of this process and of all.
 const TOO_MANY_OPEN: [i32; 2] = [24, 23];
 
-pub const PERMISSION_DENIED: i32 = 13;
+const UNREADABLE: &str = "Permission denied (its directory can't be read, so it can't be synced)";
 
 /// How far the way to a name has gone.
 #[derive(Clone, Copy)]
@@ -99,6 +99,15 @@ pub fn passed(error: io::Error, spot: Spot) -> io::Result<Option<Spot>> {
     match error.kind() {
         ErrorKind::NotFound | ErrorKind::NotADirectory => Ok(None),
         _ => Err(error),
+    }
+}
+
+/// The answer where this error keeps a directory from being opened in which a name is to change.
+pub fn unsynced(error: io::Error) -> io::Error {
+    if matches!(error.kind(), ErrorKind::PermissionDenied) {
+        io::Error::new(ErrorKind::Other, UNREADABLE)
+    } else {
+        error
     }
 }
 

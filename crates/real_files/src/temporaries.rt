@@ -35,7 +35,8 @@ pub struct Temporary {
     due: Grant,
     /// Whether it may be executed, where that was said.
     executable: Option<bool>,
-    is_link: bool,
+    /// Whether it becomes a link.
+    pub is_link: bool,
     stage: Stage,
     /// When it was started.
     started: u64,
@@ -238,13 +239,13 @@ impl Temporaries {
         Ok(())
     }
 
-    /// Keeps that the one that goes by this name becomes a link.
-    pub fn set_link(&mut self, name: &str) -> io::Result<()> {
+    /// Keeps whether the one that goes by this name becomes a link.
+    pub fn set_link(&mut self, name: &str, link: bool) -> io::Result<()> {
         let Some(number) = self.find(name) else {
             return Err(no_file());
         };
         if let Some(temporary) = self.all.get_mut(number) {
-            temporary.is_link = true;
+            temporary.is_link = link;
         }
         Ok(())
     }

@@ -38,6 +38,16 @@ pub reads_works : {R E : Type 0} (u v : TreeView) (r : Result R E) (n : List ℕ
 reads_works u v r n is call same quiet = worked u v r n is call (λ q. untouched_quiet same q) (reads_seals u v n same)
     (λ f g told now q ne. ap (λ (x : Files). get x q) (same_Some _ _ (sym now ∙ same.told ∙ told))) quiet
 
+-- calls that leave the tree untouched are work on any name
+pub untouched_works : {u w : TreeView} (temp : List ℕ) → IsUntouched u w → IsQuiet u → WorksOn u w temp
+untouched_works {u = u} {w = w} temp same quiet = record {
+  passes = same.passes;
+  quiet = untouched_quiet same quiet;
+  others = λ f g told now q ne. ap (λ (x : Files). get x q) (same_Some _ _ (sym now ∙ same.told ∙ told));
+  seals = λ q ne was. same.sealed q ∙ was;
+  since = λ f told c left. (works_none u temp quiet).since f told c ((same.since u.moment c (omega arith)).0 left);
+}
+
 pub there_told : (u v : TreeView) (n : List ℕ) → v.told ≡ u.told → IsThere u n → IsThere v n
 there_told u v n same there f now = there f (sym same ∙ now)
 

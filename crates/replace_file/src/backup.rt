@@ -100,6 +100,22 @@ fn copy_file<T: Tree>(tree: &mut T, from: &Name, begun: &mut Temp<'_>) -> Result
     }
 }
 
+// Adds all bytes of a file. A copy of a symbolic link, whose bytes are its text, becomes a link.
+fn copy_whole<T: Tree>(tree: &mut T, from: &Name, begun: &mut Temp<'_>) -> Result<(), Failed>
+    requires quiet { IsQuiet (T.view tree.old) }
+    requires lasting { is_temp from.now ≡ false }
+    requires begun { IsThere (T.view tree.old) begun.old.name.now }
+    ensures name { begun.new.name.now ≡ begun.old.name.now }
+    ensures run { IsRun (T.view tree.old) (T.view tree.new) result }
+    ensures works { WorksOn (T.view tree.old) (T.view tree.new) begun.old.name.now }
+    ensures seals { SealsStay (T.view tree.old) (T.view tree.new) begun.old.name.now }
+    ensures there { OnOk result (IsThere (T.view tree.new) begun.old.name.now) }
+    ensures bytes { OnOk result ((f g : Files) → (T.view tree.old).told ≡ Some f → (T.view tree.new).told ≡ Some g → bytes_at g begun.old.name.now ≡ bytes_at f begun.old.name.now ++ bytes_at f from.now) }
+{
+    copy_file(tree, from, begun)?;
+    begun.set_like(tree, from)
+}
+
 /// Puts the bytes of a file at another name, an empty file where it is missing: whole at every moment, by way of the
 /// temporary.
 pub fn copy_backup<T: Tree>(tree: &mut T, from: &Name, temp: &Name, to: &Name) -> Result<(), Failed>
@@ -122,6 +138,6 @@ fn copy_to_temp<T: Tree>(tree: &mut T, from: &Name, temp: &Name, to: &Name) -> R
     ensures { Puts (T.view tree.old) (T.view tree.new) result temp.now to.now (λ f. bytes_at f from.now) }
 {
     let mut begun = begin_temp(tree, temp)?;
-    copy_file(tree, from, &mut begun)?;
+    copy_whole(tree, from, &mut begun)?;
     put_begun(tree, begun, to)
 }

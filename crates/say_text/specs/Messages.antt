@@ -4,7 +4,7 @@ use Rattle.std.specs.Prelude.{ℕ, ◌==◌, ℤ, pos, negsuc, suc, List, [], �
 use Rattle.num_text.specs.Numbers.{decimal}
 use Rattle.patch_options.specs.PlainJob.{PlainOptions}
 use Rattle.say_text.specs.Origins.{PlainOrigin}
-use Rattle.say_text.specs.Origins.PlainOrigin.{Itself, RenamedFrom, CopiedFrom}
+use Rattle.say_text.specs.Origins.PlainOrigin.{Itself, RenamedFrom, RenamedBefore, CopiedFrom}
 use Rattle.say_text.specs.declared.standing.Standing.{Standing}
 use Rattle.say_text.specs.declared.standing.Standing.TheVariants.{Missing, Empty, Filled}
 
@@ -26,20 +26,22 @@ abbrev pub is_int_one : ℤ → Bool
 is_int_one (pos n) = n == 1
 is_int_one (negsuc n) = false
 
--- what is done with a file; in a dry run it is only checked
-abbrev pub doing : Bool → List ℕ
-doing is_dry = if is_dry then codes "checking file " else codes "patching file "
+-- what is done with a file or a symbolic link; in a dry run it is only checked
+abbrev pub doing : Bool → Bool → List ℕ
+doing is_dry true = if is_dry then codes "checking symbolic link " else codes "patching symbolic link "
+doing is_dry false = if is_dry then codes "checking file " else codes "patching file "
 
--- what stands behind the name of a patched file: the source where it is renamed or copied
+-- what stands behind the name of a patched file: the source where it is renamed, now or before, or copied
 abbrev pub behind_name : PlainOrigin → List ℕ
 behind_name Itself = codes "\n"
 behind_name (RenamedFrom source) = codes " (renamed from " ++ (source ++ codes ")\n")
+behind_name (RenamedBefore source) = codes " (already renamed from " ++ (source ++ codes ")\n")
 behind_name (CopiedFrom source) = codes " (copied from " ++ (source ++ codes ")\n")
 
 -- the file, and where it comes from; with `-o` the output, and the file that it is read from
-abbrev pub patching_line : Bool → Option (List ℕ) → List ℕ → PlainOrigin → List ℕ
-patching_line is_dry None name origin = doing is_dry ++ (name ++ behind_name origin)
-patching_line is_dry (Some output) name origin = doing is_dry ++ (output ++ (codes " (read from " ++ (name ++ codes ")\n")))
+abbrev pub patching_line : Bool → Bool → Option (List ℕ) → List ℕ → PlainOrigin → List ℕ
+patching_line is_dry is_link None name origin = doing is_dry is_link ++ (name ++ behind_name origin)
+patching_line is_dry is_link (Some output) name origin = doing is_dry is_link ++ (output ++ (codes " (read from " ++ (name ++ codes ")\n")))
 
 -- a binary change at this line is passed over
 abbrev pub skipping_line : ℕ → List ℕ
@@ -116,9 +118,25 @@ failed_line number at = hunk_text number (codes " FAILED at ") at ++ codes ".\n"
 abbrev pub not_deleting_line : List ℕ → List ℕ
 not_deleting_line name = codes "Not deleting file " ++ (name ++ codes " as content differs from patch\n")
 
--- what stands at this name, or on the way to it, is no file
-abbrev pub barred_line : List ℕ → List ℕ
-barred_line name = codes "File " ++ (name ++ codes " is not a regular file -- refusing to patch\n")
+-- what stands at this name, or on the way to it, is no file, or no symbolic link where one is meant
+abbrev pub is_not : Bool → List ℕ
+is_not true = codes " is not a symbolic link -- refusing to patch\n"
+is_not false = codes " is not a regular file -- refusing to patch\n"
+
+abbrev pub barred_line : Bool → List ℕ → List ℕ
+barred_line is_link name = codes "File " ++ (name ++ is_not is_link)
+
+-- a file would become a symbolic link, or a link a file; types are told as modes of the system
+abbrev pub type_change : Bool → List ℕ
+type_change true = codes ": can't change file type from 0100000 to 0120000.\n"
+type_change false = codes ": can't change file type from 0120000 to 0100000.\n"
+
+abbrev pub type_line : Bool → List ℕ → List ℕ
+type_line to_link name = codes "File " ++ (name ++ type_change to_link)
+
+-- what is at this name is no file, but another repository
+abbrev pub submodule_line : List ℕ → List ℕ
+submodule_line name = codes "File " ++ (name ++ codes ": git submodules are not supported.\n")
 
 -- behind a number of 1 stands one hunk
 abbrev pub hunk_word : ℕ → List ℕ

@@ -4,7 +4,7 @@ ghost use Rattle.std.specs.Prelude.{◌≡◌, ◌++◌, codes, true, false};
 ghost use Rattle.outside.specs.SinkView.{Writes};
 ghost use Rattle.patch_options.specs.PlainJob.{plain_options};
 ghost use Rattle.say_text.specs.Origins.{plain_origin};
-ghost use Rattle.say_text.specs.Messages.{silenced, doing, behind_name, patching_line, no_file_lines, prereq_line, reaction, reversed_line, would_do, stands_so, unfit_line, not_deleting_line, barred_line};
+ghost use Rattle.say_text.specs.Messages.{silenced, doing, behind_name, patching_line, no_file_lines, prereq_line, reaction, reversed_line, would_do, stands_so, unfit_line, not_deleting_line, is_not, barred_line, type_change, type_line, submodule_line};
 
 use crate::lines::no_file_lines;
 use crate::origin::Origin;
@@ -13,26 +13,30 @@ use crate::standing::Standing;
 use outside::{Failed, Sink, put_all};
 use patch_options::Options;
 
-/// Says which file is patched, or would be. `name` is the chosen one, but the new one of a rename or a copy. With `-o` its
+/// Says which file or symbolic link is patched, or would be. `name` is the chosen one, but the new one of a rename or a copy. With `-o` its
 /// origin isn't told. Nothing is written with `-s`.
 pub fn say_patching<O: Sink>(
     options: &Options,
+    is_link: bool,
     name: &str,
     origin: Origin<'_>,
     out: &mut O,
 ) -> Result<(), Failed>
-    ensures writes { Writes (O.view out.old) (O.view out.new) result (silenced (plain_options options.now) (patching_line options.now.dry_run options.now.output name.now (plain_origin origin.entry))) }
+    ensures writes { Writes (O.view out.old) (O.view out.new) result (silenced (plain_options options.now) (patching_line options.now.dry_run is_link options.now.output name.now (plain_origin origin.entry))) }
     ensures rest { O.same_rest out.old out.new }
 {
     if options.silent {
         return Ok(());
     }
-    put_patching(options, name.as_bytes(), origin, out)
+    put_patching(options, is_link, name.as_bytes(), origin, out)
 }
 
-fn doing(is_dry: bool) -> &'static [u8]
-    ensures { result.now ≡ doing is_dry }
+fn doing(is_dry: bool, is_link: bool) -> &'static [u8]
+    ensures { result.now ≡ doing is_dry is_link }
 {
+    if is_link {
+        return doing_to_link(is_dry);
+    }
     if is_dry {
         b"checking file "
     } else {
@@ -40,16 +44,27 @@ fn doing(is_dry: bool) -> &'static [u8]
     }
 }
 
+fn doing_to_link(is_dry: bool) -> &'static [u8]
+    ensures { result.now ≡ doing is_dry true }
+{
+    if is_dry {
+        b"checking symbolic link "
+    } else {
+        b"patching symbolic link "
+    }
+}
+
 fn put_patching<O: Sink>(
     options: &Options,
+    is_link: bool,
     name: &[u8],
     origin: Origin<'_>,
     out: &mut O,
 ) -> Result<(), Failed>
-    ensures writes { Writes (O.view out.old) (O.view out.new) result (patching_line options.now.dry_run options.now.output name.now (plain_origin origin.entry)) }
+    ensures writes { Writes (O.view out.old) (O.view out.new) result (patching_line options.now.dry_run is_link options.now.output name.now (plain_origin origin.entry)) }
     ensures rest { O.same_rest out.old out.new }
 {
-    let doing = doing(options.dry_run);
+    let doing = doing(options.dry_run, is_link);
     match &options.output {
         None => put_patched(out, doing, name, origin),
         Some(output) => put_from(out, doing, output.text().as_bytes(), b" (read from ", name),
@@ -72,6 +87,13 @@ fn put_patched<O: Sink>(
             doing,
             name,
             b" (renamed from ",
+            source.as_bytes(),
+        ),
+        Origin::AlreadyRenamed(source) => put_from(
+            out,
+            doing,
+            name,
+            b" (already renamed from ",
             source.as_bytes(),
         ),
         Origin::Copied(source) => put_from(out, doing, name, b" (copied from ", source.as_bytes()),
@@ -231,15 +253,51 @@ pub fn say_not_deleting<O: Sink>(_options: &Options, name: &str, out: &mut O) ->
     )
 }
 
-/// Says that a file patch is skipped, since no file can be put at this name. With `-s` too.
-pub fn say_barred<O: Sink>(name: &str, out: &mut O) -> Result<(), Failed>
-    ensures writes { Writes (O.view out.old) (O.view out.new) result (barred_line name.now) }
+/// Says that a file patch is skipped, since no file can be put at this name, or no symbolic link. With `-s` too.
+pub fn say_barred<O: Sink>(is_link: bool, name: &str, out: &mut O) -> Result<(), Failed>
+    ensures writes { Writes (O.view out.old) (O.view out.new) result (barred_line is_link name.now) }
+    ensures rest { O.same_rest out.old out.new }
+{
+    put_around(out, b"File ", name.as_bytes(), is_not(is_link))
+}
+
+fn is_not(is_link: bool) -> &'static [u8]
+    ensures { result.now ≡ is_not is_link }
+{
+    if is_link {
+        b" is not a symbolic link -- refusing to patch\n"
+    } else {
+        b" is not a regular file -- refusing to patch\n"
+    }
+}
+
+/// Says that a file patch is skipped, since it would make a symbolic link of a file, or a file of a link. With `-s` too.
+pub fn say_type_change<O: Sink>(to_link: bool, name: &str, out: &mut O) -> Result<(), Failed>
+    ensures writes { Writes (O.view out.old) (O.view out.new) result (type_line to_link name.now) }
+    ensures rest { O.same_rest out.old out.new }
+{
+    put_around(out, b"File ", name.as_bytes(), type_change(to_link))
+}
+
+fn type_change(to_link: bool) -> &'static [u8]
+    ensures { result.now ≡ type_change to_link }
+{
+    if to_link {
+        b": can't change file type from 0100000 to 0120000.\n"
+    } else {
+        b": can't change file type from 0120000 to 0100000.\n"
+    }
+}
+
+/// Says that a file patch is skipped, since it is about a submodule. With `-s` too.
+pub fn say_submodule<O: Sink>(name: &str, out: &mut O) -> Result<(), Failed>
+    ensures writes { Writes (O.view out.old) (O.view out.new) result (submodule_line name.now) }
     ensures rest { O.same_rest out.old out.new }
 {
     put_around(
         out,
         b"File ",
         name.as_bytes(),
-        b" is not a regular file -- refusing to patch\n",
+        b": git submodules are not supported.\n",
     )
 }

@@ -12,7 +12,8 @@ mod skipping;
 mod standing;
 
 pub use files::{
-    say_barred, say_no_file, say_not_deleting, say_patching, say_prereq, say_reversed, say_unfit,
+    say_barred, say_no_file, say_not_deleting, say_patching, say_prereq, say_reversed,
+    say_submodule, say_type_change, say_unfit,
 };
 pub use hunks::{say_failed, say_failures, say_ignored, say_placed};
 pub use origin::Origin;

@@ -7,6 +7,8 @@ pub enum Origin<'n> {
     Same,
     /// It is the file with this name, which is gone then.
     Renamed(&'n str),
+    /// It was the file with this name, before the run.
+    AlreadyRenamed(&'n str),
     /// It is the file with this name, which stays.
     Copied(&'n str),
 }

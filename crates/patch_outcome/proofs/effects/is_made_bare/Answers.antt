@@ -1,5 +1,5 @@
 use Rattle.std.proofs.Common.{true, false, ap, sym, ◌∙◌}
-use Rattle.std.specs.Prelude.{is_some}
+use Rattle.patch_task.specs.Asking.{is_set}
 use Rattle.patch_outcome.specs.TurnView.{plain_turn}
 use Rattle.patch_outcome.proofs.TestByTest.{made_new, made_moved, made_gone, made_moded}
 use Rattle.patch_outcome.proofs.effects.is_made_bare.Goals as goal
@@ -18,6 +18,6 @@ returns-then-acts_deleted c x side is =
 
 pub returns : goal.returns
 returns c x side is =
-    c.is_some.ensures
-    ∙ ap is_some c.mode_asked.ensures
+    c.is_set.ensures
+    ∙ ap is_set c.mode_asked.ensures
     ∙ sym (made_moded (plain_turn c.args.turn.now) x c.args.side side (sym (c.acts_new.ensures c.args.turn.now.task.set.now.text) ∙ c.if-acts_new.false) (sym c.is_moved.ensures ∙ c.if-is_moved.false) (sym (c.acts_deleted.ensures c.args.turn.now.task.set.now.text) ∙ c.if-acts_deleted.false))

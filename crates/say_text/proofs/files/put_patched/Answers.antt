@@ -14,6 +14,15 @@ returns-in-Renamed g c = record {
   rest = c.put_from.ensures.rest;
 }
 
+pub returns-in-AlreadyRenamed : goal.returns-in-AlreadyRenamed
+returns-in-AlreadyRenamed g c = record {
+  writes = let line = λ (l : List ℕ). c.args.doing.now ++ (c.args.name.now ++ l) in
+      writes_is c.put_from-in-AlreadyRenamed.result (line (behind_name (plain_origin c.args.origin))) c.put_from-in-AlreadyRenamed.ensures.writes
+      (ap (λ (l : List ℕ). line (codes " (already renamed from " ++ (l ++ codes ")\n"))) c.as_bytes-in-AlreadyRenamed.ensures.value
+      ∙ ap (λ (o : Origin). line (behind_name (plain_origin o))) (sym c.in-AlreadyRenamed.is));
+  rest = c.put_from-in-AlreadyRenamed.ensures.rest;
+}
+
 pub returns-in-Copied : goal.returns-in-Copied
 returns-in-Copied g c = record {
   writes = let line = λ (l : List ℕ). c.args.doing.now ++ (c.args.name.now ++ l) in

@@ -1,0 +1,72 @@
+//! File patches that are skipped for what they are about, or for what is in their way.
+
+ghost use Rattle.std.specs.Prelude.{◌≡◌, ◌<◌, length, false, Some, IfOk, IfErr};
+ghost use Rattle.outside.specs.SinkView.{Writes};
+ghost use Rattle.name_choice.specs.Choice.{side_of};
+ghost use Rattle.say_text.specs.Messages.{barred_line};
+ghost use Rattle.patch_task.specs.declared.fault.RunFault.TheVariants.{Write};
+ghost use Rattle.patch_task.specs.TaskView.{plain_task, IsTask};
+ghost use Rattle.patch_start.specs.Start.{unmeant_line, unmeant_said};
+
+use crate::naming::named;
+use crate::obstacles::Barrier;
+use crate::starting::{Decision, own_side, skip_at};
+use outside::{Failed, Sink};
+use patch_task::{RunFault, Subject, Task, shown, subject_of};
+use say_text::{say_barred, say_submodule, say_type_change};
+
+/// Something is in its way.
+pub fn on_barred<O: Sink>(
+    task: &Task<'_>,
+    place: u32,
+    barrier: Barrier<'_>,
+    out: &mut O,
+) -> Result<Decision, RunFault>
+    ensures writes { Writes (O.view out.old) (O.view out.new) result (barred_line barrier.entry.link barrier.entry.name.now) }
+    ensures fault { IfErr result (λ e. e ≡ Write) }
+    ensures rest { O.same_rest out.old out.new }
+    ensures row { IfOk result (λ d. d ≡ Decision.Skip (record { side = side_of task.now.options.now.reverse; target = Some place; wrote = false })) }
+{
+    say_barred(barrier.link, barrier.name, out)?;
+    Ok(skip_at(place, own_side(task)))
+}
+
+/// Its modes ask for what isn't done.
+pub fn on_unmeant<O: Sink>(task: &Task<'_>, place: u32, out: &mut O) -> Result<Decision, RunFault>
+    requires task { IsTask task.now }
+    requires within { place < length task.now.patch.now.targets.items }
+    ensures writes { Writes (O.view out.old) (O.view out.new) result (unmeant_said (plain_task task.now) place) }
+    ensures fault { IfErr result (λ e. e ≡ Write) }
+    ensures rest { O.same_rest out.old out.new }
+    ensures row { IfOk result (λ d. d ≡ Decision.Skip (record { side = side_of task.now.options.now.reverse; target = Some place; wrote = false })) }
+{
+    tell_unmeant(task, place, out)?;
+    Ok(skip_at(place, own_side(task)))
+}
+
+fn tell_unmeant<O: Sink>(task: &Task<'_>, place: u32, out: &mut O) -> Result<(), Failed>
+    requires task { IsTask task.now }
+    requires within { place < length task.now.patch.now.targets.items }
+    ensures writes { Writes (O.view out.old) (O.view out.new) result (unmeant_said (plain_task task.now) place) }
+    ensures rest { O.same_rest out.old out.new }
+{
+    let name = shown(named(task, place));
+    say_unmeant(task.options.reverse, name, subject_of(task), out)
+}
+
+fn say_unmeant<O: Sink>(
+    reverse: bool,
+    name: &str,
+    subject: Subject,
+    out: &mut O,
+) -> Result<(), Failed>
+    ensures writes { Writes (O.view out.old) (O.view out.new) result (unmeant_line reverse name.now subject) }
+    ensures rest { O.same_rest out.old out.new }
+{
+    match subject {
+        Subject::File | Subject::Link => Ok(()),
+        Subject::FileToLink => say_type_change(!reverse, name, out),
+        Subject::LinkToFile => say_type_change(reverse, name, out),
+        Subject::Submodule => say_submodule(name, out),
+    }
+}
