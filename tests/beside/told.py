@@ -79,7 +79,6 @@ tell("renamed-already", {b"g": b"a\n"}, git(b"g", b"similarity index 100%\nrenam
 tell("git-links", {b"l": Entry("link", b"f")}, git(b"m", b"similarity index 100%\nrename from l\nrename to m\n", b"l"), "-p1")
 tell("in-the-way", {b"f/x": b"a\n"}, MADE)
 tell("links-on-the-way", {b"d": Entry("dir"), b"d/f": Entry(data=b"a\n"), b"l": Entry("link", b"d")}, ONE.replace(b" f\n", b" l/f\n"))
-tell("long-lines", {b"f": b"a\n" + b"x" * 1_100_000 + b"\n"}, ONE)
 tell("output-several", {b"f": b"a\n", b"g": b"a\n"}, ONE + OTHER, "-p0", "-o", "o")
 tell("directories-made", {b"f": b"a\n"}, ONE, "-p0", "-o", "d/o")
 tell("output-empty", {b"f": b"a\n"}, b"", "-o", "o", "f")

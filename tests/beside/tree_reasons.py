@@ -1,11 +1,10 @@
-"""Why odd trees and texts lead to something else: links and directories in the way, long lines and names, damaged and binary patches."""
+"""Why odd trees and texts lead to something else: links and directories in the way, long names, damaged and binary patches."""
 import re
 
 from case import Reasons
 from seen import about, file_patches, hunks_of, names_of, of, original, refused, stop, texts_of, unreached, with_status
 
 REASONS = Reasons()
-BUFFER = 1_048_572  # with the line feed
 
 
 def obstacles(case):
@@ -38,15 +37,6 @@ def links_on_the_way(case, gnu, ours, differences):
         found += about(case, of(differences, "missing"), inside | behind)
         found += [each for each in of(differences, "bytes", names=behind) if each.ours == original(case, each.name)]
     return with_status(found, gnu, ours, differences, (0, 1))
-
-
-@REASONS.of("long-lines")
-def long_lines(case, gnu, ours, differences):
-    """A line above 1,048,572 bytes ends the run."""
-    texts = [texts_of(case), *(entry.data for entry in case.tree.values())]
-    if not any(len(line) >= BUFFER for text in texts for line in text.split(b"\n")) or stop(gnu, ours) != "ours":
-        return []
-    return unreached(case, gnu, ours, differences, "ours")
 
 
 @REASONS.of("long-names")

@@ -1,2 +1,3 @@
 mod Steps
 pub mod Same
+mod Whole

@@ -99,11 +99,11 @@ counted-all bytes count so le =
 
 -- ---- the next of those that are left
 
-leader-zero : (w : ℕ → ℕ → Bool) (left : List ℕ) (k : ℕ) → leader zero w left k ≡ None
+pub leader-zero : (w : ℕ → ℕ → Bool) (left : List ℕ) (k : ℕ) → leader zero w left k ≡ None
 unfolding leader
 leader-zero w left k = refl
 
-leader-suc : (most : ℕ) (w : ℕ → ℕ → Bool) (left : List ℕ) (k : ℕ) → leader (suc most) w left k ≡ go_on (leader most w left) k (position (w (get_or left k 0)) left)
+pub leader-suc : (most : ℕ) (w : ℕ → ℕ → Bool) (left : List ℕ) (k : ℕ) → leader (suc most) w left k ≡ go_on (leader most w left) k (position (w (get_or left k 0)) left)
 unfolding leader
 leader-suc most w left k = refl
 
@@ -141,11 +141,11 @@ module _ (w : ℕ → ℕ → Bool) (left : List ℕ) where
 
 -- ---- those that were taken
 
-taken-zero : (w : ℕ → ℕ → Bool) (left : List ℕ) → taken zero w left ≡ []
+pub taken-zero : (w : ℕ → ℕ → Bool) (left : List ℕ) → taken zero w left ≡ []
 unfolding taken
 taken-zero w left = refl
 
-taken-suc : (most : ℕ) (w : ℕ → ℕ → Bool) (left : List ℕ) → taken (suc most) w left ≡ get_or left (next_of w left) 0 ∷ taken most w (remove left (next_of w left))
+pub taken-suc : (most : ℕ) (w : ℕ → ℕ → Bool) (left : List ℕ) → taken (suc most) w left ≡ get_or left (next_of w left) 0 ∷ taken most w (remove left (next_of w left))
 unfolding taken
 taken-suc most w left = refl
 
@@ -182,11 +182,11 @@ module _ (w : ℕ → ℕ → Bool) (whole : List ℕ) where
 
 -- ---- batches
 
-batches-end : (text : List ℕ) (reverse : Bool) (ps : List Piece) (batch : List ℕ) → in_batches text reverse ps batch [] ≡ in_batch text reverse ps batch
+pub batches-end : (text : List ℕ) (reverse : Bool) (ps : List Piece) (batch : List ℕ) → in_batches text reverse ps batch [] ≡ in_batch text reverse ps batch
 unfolding in_batches
 batches-end text reverse ps batch = refl
 
-batches-cons : (text : List ℕ) (reverse : Bool) (ps : List Piece) (batch : List ℕ) (k : ℕ) (ks : List ℕ)
+pub batches-cons : (text : List ℕ) (reverse : Bool) (ps : List Piece) (batch : List ℕ) (k : ℕ) (ks : List ℕ)
     → in_batches text reverse ps batch (k ∷ ks) ≡ ended text reverse ps batch k ++ in_batches text reverse ps (begun ps batch k) ks
 unfolding in_batches
 batches-cons text reverse ps batch k ks = refl

@@ -3,9 +3,11 @@
 #![tactic(auto)]
 
 mod batches;
+mod laws;
 mod laying;
 mod pieces;
 mod reading;
 mod waiting;
 
+pub use laws::orders_are_whole;
 pub use reading::read_in_order;

@@ -10,9 +10,13 @@ use Rattle.line_store.specs.declared.fault.OpenFault.{OpenFault}
 use Rattle.line_store.specs.declared.fault.OpenFault.TheVariants.{Tree, Scratch, LongLine, FileTooLong, Disagree, Memory}
 use Rattle.line_store.specs.Store.{Seen, Rises, line_at}
 
--- the size of a buffer
+-- the size of a page
 abbrev pub IsSize : ℕ → Type 0
 IsSize size = (512 ≤ size) × (size ≤ 1048576)
+
+-- the size of a buffer, of which no page need be made: it says how long a line may be
+abbrev pub IsBuffer : ℕ → Type 0
+IsBuffer size = 512 ≤ size
 
 -- a line that is longer than a buffer of this size admits
 abbrev pub is_long : ℕ → List (List ℕ) → ℕ → Bool
@@ -66,6 +70,15 @@ TakesFile before after t name = (f : Files) → t.told ≡ Some f → Takes befo
 -- the answer is the one that the file's bytes give, where the tree tells them
 abbrev pub IsRefused : Seen → tree.TreeView → List ℕ → OpenFault → Type 0
 IsRefused before t name e = (f : Files) → t.told ≡ Some f → refusal before.size (bytes_at f name) ≡ Some e
+
+-- lines are measured before the scratch is written: where one is too long, the scratch is as it was
+abbrev pub KeepsAtLong : OpenFault → Option (List ℕ) → Option (List ℕ) → Type 0
+KeepsAtLong Tree before after = Unit {0}
+KeepsAtLong Scratch before after = Unit {0}
+KeepsAtLong (LongLine line length) before after = after ≡ before
+KeepsAtLong (FileTooLong length) before after = Unit {0}
+KeepsAtLong (Disagree want got) before after = Unit {0}
+KeepsAtLong Memory before after = Unit {0}
 
 -- what a fault says of the store and the tree before and after the call
 abbrev pub HasOpenCause : OpenFault → Seen → Seen → tree.TreeView → tree.TreeView → List ℕ → Type 0

@@ -2,7 +2,7 @@
 
 ghost use Rattle.std.specs.Prelude.{◌≡◌, ◌≤◌, ◌<◌, ◌+◌, ◌^◌, ℕ, List, [], length, None, Some, IfOk, IfErr};
 ghost use Rattle.line_list.specs.Lines.{lines};
-ghost use Rattle.line_store.specs.Taking.{HasOpenCause};
+ghost use Rattle.line_store.specs.Taking.{HasOpenCause, KeepsAtLong};
 ghost use Rattle.outside.specs.Calls.{IsThere, IsUntouched};
 ghost use Rattle.outside.specs.ScratchView.{ScratchPasses};
 ghost use Rattle.page_pair.specs.Reading.{told_file, HasLength, IsMeasureFault};
@@ -67,6 +67,7 @@ pub fn take_pages<T: Tree, C: Scratch>(
     ensures measured { IfOk result (λ l. (text : List ℕ) → told_file (T.view tree.old) name.now ≡ Some text → IsMeasuredAs l (lines text)) }
     ensures short { IfOk result (λ l. (text : List ℕ) → told_file (T.view tree.old) name.now ≡ Some text → length text < 2 ^ 40) }
     ensures cause { IfErr result (λ e. HasOpenCause e (bare pair.old.size (C.view scratch.old)) (bare pair.old.size (C.view scratch.new)) (T.view tree.old) (T.view tree.new) name.now) }
+    ensures kept { IfErr result (λ e. KeepsAtLong e (C.view scratch.old).told (C.view scratch.new).told) }
 {
     let total = match size_of(tree, name) {
         Ok(total) => total,

@@ -6,7 +6,7 @@ use Rattle.std.specs.Prelude.{nat_le}
 use Rattle.std.proofs.lemmas.Bool.Decides.{nat_tests}
 use Rattle.line_list.specs.Lines.{lines}
 use Rattle.line_store.specs.Store.{line_at}
-use Rattle.line_store.specs.Taking.{refusal, first_long, HasOpenCause}
+use Rattle.line_store.specs.Taking.{refusal, first_long, HasOpenCause, KeepsAtLong}
 use Rattle.line_store.specs.declared.fault.OpenFault.{OpenFault}
 use Rattle.line_store.specs.declared.fault.OpenFault.TheVariants.{Tree, Scratch, LongLine, FileTooLong, Disagree, Memory}
 use Rattle.outside.specs.TreeView.{TreeView}
@@ -35,6 +35,15 @@ open-cause (LongLine line length) size v w t x name h = absurd h
 open-cause (FileTooLong length) size v w t x name h = absurd h
 open-cause (Disagree want got) size v w t x name h = (h.0, λ some. h.1)
 open-cause Memory size v w t x name h = absurd h
+
+-- no line that is too long is met in copying
+pub take-kept : (e : OpenFault) (v w : ScratchView) (t x : TreeView) → IsTakeFault e v w t x → KeepsAtLong e v.told w.told
+take-kept Tree v w t x h = tt
+take-kept Scratch v w t x h = tt
+take-kept (LongLine line length) v w t x h = absurd h
+take-kept (FileTooLong length) v w t x h = tt
+take-kept (Disagree want got) v w t x h = tt
+take-kept Memory v w t x h = tt
 
 abbrev pub two_lines : List (List ℕ)
 two_lines = (97 ∷ 10 ∷ []) ∷ (98 ∷ 99 ∷ 100 ∷ 10 ∷ []) ∷ []

@@ -6,7 +6,7 @@ use Rattle.std.proofs.lemmas.Slice.Eq.{bytes_eq-Decides}
 use Rattle.outside.specs.Names.{is_slash, is_control, broken_given, IsFront}
 use Rattle.clap.specs.Words.{Row, Text}
 use Rattle.hunk_core.specs.declared.Form.TheVariants.{Unified, Context}
-use Rattle.patch_options.specs.Forms.{is_suffix, is_backup_kind, is_prefix, is_name, is_lasting_name, is_reject_file, is_directory, is_empty, is_macro_name, buffer_of, buffer_in, usual_buffer, number_of, reject_form_of}
+use Rattle.patch_options.specs.Forms.{is_suffix, is_backup_kind, is_prefix, is_name, is_lasting_name, is_reject_file, is_directory, is_empty, is_macro_name, buffer_of, buffer_in, usual_buffer, largest_buffer, number_of, reject_form_of}
 use Rattle.patch_options.specs.PlainJob.{IsSuffix, HasContext, IsMacroName, IsLawful}
 use Rattle.patch_options.specs.Table.{is_command, options_of, value_of, has_form, outputs_agree, switches_agree, values_agree, names_agree, numbers_agree, words_agree, others_agree, plan_in}
 use Rattle.patch_options.specs.declared.options.PlanKind.{PlanKind}
@@ -67,35 +67,42 @@ context_is (Some text) = go (bytes_eq text (codes "context")) (bytes_eq text (co
     go false true = some_has HasContext Unified (record { not_normal = λ e. cc; not_ed = λ e. cc })
     go false false = none_has HasContext
 
-abbrev pub IsSize : ℕ → Type 0
-IsSize n = (512 ≤ n) × (n ≤ 1048576)
+abbrev pub IsSize : PlanKind → ℕ → Type 0
+IsSize plan n = (512 ≤ n) × (n ≤ largest_buffer plan)
 
-size_in : (n : ℕ) → ForSome (buffer_in n) IsSize
-size_in n = go (nat_le 512 n) (nat_le n 1048576) refl refl
+-- what a command may give is no more than any plan has
+given_is : (plan : PlanKind) (n : ℕ) → 512 ≤ n → n ≤ 1048576 → IsSize plan n
+given_is Whole n least most = (least, most)
+given_is Padded n least most = (least, most)
+given_is Packed n least most = (least, most)
+given_is Auto n least most = (least, omega arith)
+
+size_in : (plan : PlanKind) (n : ℕ) → ForSome (buffer_in n) (IsSize plan)
+size_in plan n = go (nat_le 512 n) (nat_le n 1048576) refl refl
   where
-    go : (a b : Bool) → nat_le 512 n ≡ a → nat_le n 1048576 ≡ b → ForSome (if a && b then Some n else None) IsSize
-    go true true least most = some_has IsSize n (grind arith, grind arith)
-    go true false least most = none_has IsSize
-    go false b least most = none_has IsSize
+    go : (a b : Bool) → nat_le 512 n ≡ a → nat_le n 1048576 ≡ b → ForSome (if a && b then Some n else None) (IsSize plan)
+    go true true least most = some_has (IsSize plan) n (given_is plan n (grind arith) (grind arith))
+    go true false least most = none_has (IsSize plan)
+    go false b least most = none_has (IsSize plan)
 
-usual_is : (plan : PlanKind) → IsSize (usual_buffer plan)
+usual_is : (plan : PlanKind) → IsSize plan (usual_buffer plan)
 usual_is Whole = (omega arith, omega arith)
 usual_is Padded = (omega arith, omega arith)
 usual_is Packed = (omega arith, omega arith)
 usual_is Auto = (omega arith, omega arith)
 
-pub size_of : (value : Option Text) (plan : PlanKind) → IsSize (unwrap_or (option_and_then buffer_of value) (usual_buffer plan))
+pub size_of : (value : Option Text) (plan : PlanKind) → IsSize plan (unwrap_or (option_and_then buffer_of value) (usual_buffer plan))
 unfolding buffer_of
 size_of None plan = usual_is plan
 size_of (Some text) plan = from_number (number_of text)
   where
-    given : (o : Option ℕ) → ForSome o IsSize → IsSize (unwrap_or o (usual_buffer plan))
+    given : (o : Option ℕ) → ForSome o (IsSize plan) → IsSize plan (unwrap_or o (usual_buffer plan))
     given None h = usual_is plan
     given (Some n) h = h n refl
 
-    from_number : (o : Option ℕ) → IsSize (unwrap_or (option_and_then buffer_in o) (usual_buffer plan))
+    from_number : (o : Option ℕ) → IsSize plan (unwrap_or (option_and_then buffer_in o) (usual_buffer plan))
     from_number None = usual_is plan
-    from_number (Some n) = given (buffer_in n) (size_in n)
+    from_number (Some n) = given (buffer_in n) (size_in plan n)
 
 pub lawful_options : (rows : List Row) → is_command rows ≡ true → IsLawful (options_of rows)
 unfolding outputs_agree

@@ -30,12 +30,19 @@ buffer_in n = if nat_le 512 n && nat_le n 1048576 then Some n else None
 unfoldable pub buffer_of : List ℕ → Option ℕ
 buffer_of text = option_and_then buffer_in (number_of text)
 
--- the size of a buffer that isn't said: there is room for long lines where the size of a file decides how its lines are held
+-- the size of a buffer that isn't said: where the size of a file decides how its lines are held, a line has as many bytes as it likes
 abbrev pub usual_buffer : PlanKind → ℕ
 usual_buffer Whole = 65536
 usual_buffer Padded = 65536
 usual_buffer Packed = 65536
-usual_buffer Auto = 1048576
+usual_buffer Auto = 4294967295
+
+-- the largest size of a buffer
+abbrev pub largest_buffer : PlanKind → ℕ
+largest_buffer Whole = 1048576
+largest_buffer Padded = 1048576
+largest_buffer Packed = 1048576
+largest_buffer Auto = 4294967295
 
 -- the plan that a text names
 unfoldable pub plan_of : List ℕ → Option PlanKind

@@ -5,7 +5,7 @@ use Rattle.outside.specs.Files.{is_temp}
 use Rattle.outside.specs.Names.{IsEnding, IsFront}
 use Rattle.hunk_core.specs.declared.Form.{Form}
 use Rattle.hunk_core.specs.declared.Form.TheVariants.{Normal, Ed}
-use Rattle.patch_options.specs.Forms.{is_macro_name}
+use Rattle.patch_options.specs.Forms.{is_macro_name, largest_buffer}
 use Rattle.patch_options.specs.declared.options.PlanKind.{PlanKind}
 use Rattle.patch_options.specs.declared.options.SyncKind.{SyncKind}
 use Rattle.patch_options.specs.declared.options.Input.{Input}
@@ -110,7 +110,7 @@ pub record IsLawful (o : PlainOptions) : Type 0 where
   pub reject_form : ForSome o.reject_form HasContext
   pub define : ForSome o.define IsMacroName
   pub least : 512 ≤ o.buffer
-  pub most : o.buffer ≤ 1048576
+  pub most : o.buffer ≤ largest_buffer o.plan
 
 abbrev pub IsLawfulJob : PlainJob → Type 0
 IsLawfulJob (patch o) = IsLawful o

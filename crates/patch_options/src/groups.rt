@@ -273,7 +273,7 @@ const LINES: &[Word] = &[
         letter: None,
         name: "buffer",
         shown: "--buffer=N",
-        help: "bytes of a buffer, 512 to 1048576 (auto: that)",
+        help: "bytes of a buffer, 512 to 1048576",
     },
 ];
 

@@ -83,7 +83,7 @@ pub struct Options {
     pub silent: bool,
     pub verbose: bool,
     pub plan: PlanKind,
-    /// The size of a page in bytes, which bounds the lines of the file.
+    /// The size of a buffer in bytes, which bounds the lines of the file. Pages have that size, and at most 1,048,576 bytes.
     pub buffer: u32,
     /// It changes nothing but what the loss of power can leave.
     pub sync: SyncKind,

@@ -363,7 +363,7 @@ fn usual_buffer(plan: PlanKind) -> u32
 {
     match plan {
         PlanKind::Whole | PlanKind::Padded | PlanKind::Packed => 65_536,
-        PlanKind::Auto => 1_048_576,
+        PlanKind::Auto => u32::MAX,
     }
 }
 

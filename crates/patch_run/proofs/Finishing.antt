@@ -1,5 +1,5 @@
 -- A set that is carried out with a plan: from what the run says of the plan's store to what it leaves.
-use Rattle.std.proofs.Common.{◌≡◌, inl, inr, ℕ, zero, ◌+◌, ◌-◌, ◌^◌, ◌<◌, ◌≤◌, List, [], ◌∷◌, length, reverse, find, option_map, Bool, true, false, cond, if◌then◌else◌, nat_lt, Option, None, Some, is_some, Result, Ok, Err, IfOk, IfErr, refl, sym, ◌∙◌, ap, subst, arith}
+use Rattle.std.proofs.Common.{◌≡◌, inl, inr, ℕ, zero, ◌+◌, ◌-◌, ◌^◌, ◌<◌, ◌≤◌, List, [], ◌∷◌, length, reverse, find, option_map, Bool, true, false, cond, if◌then◌else◌, Option, None, Some, is_some, Result, Ok, Err, IfOk, IfErr, refl, sym, ◌∙◌, ap, subst, arith}
 use Rattle.std.proofs.lemmas.List.{reverse-append, append-nil}
 use Rattle.std.proofs.lemmas.List.Folds.{find-append}
 use Rattle.std.proofs.lemmas.Option.{same_Some}
@@ -19,6 +19,7 @@ use Rattle.patch_options.specs.PlainJob.{PlainOptions}
 use Rattle.patch_options.specs.declared.options.PlanKind.TheVariants.{Whole, Padded, Packed, Auto}
 use Rattle.patch_set.specs.declared.set.Row.{Row}
 use Rattle.patch_set.specs.SetView.{SetView}
+use Rattle.plan_a.specs.Auto.{page_size, goes_to_pages}
 use Rattle.plan_b.specs.Pages.{pages}
 use Rattle.packed_pages.specs.Packs.{packs}
 use Rattle.patch_run.specs.Applied.{Receipt}
@@ -34,23 +35,23 @@ use Rattle.patch_run.specs.Finishes.{IsToldTo, HasPlanCause, IsNotBegun, LeavesV
 
 -- what one file does to the scratch of a plan that is the options' plan
 pub record KeepsThere (o : PlainOptions) (scratch_after : ℕ → List ℕ → Option (List ℕ) → Option (List ℕ)) : Type 0 where
-  pub each : (file before : List ℕ) → scratch_after o.buffer file (Some before) ≡ Some (if goes_there o.plan file then pages_of o.plan o.buffer (lines file) else before)
+  pub each : (file before : List ℕ) → scratch_after o.buffer file (Some before) ≡ Some (if goes_there o.plan o.buffer file then pages_of o.plan o.buffer (lines file) else before)
 
 pub keeps_padded : (o : PlainOptions) → o.plan ≡ Padded → KeepsThere o (λ size file before. option_map (λ _. pages size (lines file)) before)
-keeps_padded o is = record { each = λ file before. ap (λ k. Some (if goes_there k file then pages_of k o.buffer (lines file) else before)) (sym is) }
+keeps_padded o is = record { each = λ file before. ap (λ k. Some (if goes_there k o.buffer file then pages_of k o.buffer (lines file) else before)) (sym is) }
 
 pub keeps_packed : (o : PlainOptions) → o.plan ≡ Packed → KeepsThere o (λ size file before. option_map (λ _. packs size (lines file)) before)
-keeps_packed o is = record { each = λ file before. ap (λ k. Some (if goes_there k file then pages_of k o.buffer (lines file) else before)) (sym is) }
+keeps_packed o is = record { each = λ file before. ap (λ k. Some (if goes_there k o.buffer file then pages_of k o.buffer (lines file) else before)) (sym is) }
 
 if_some : (b : Bool) (x y : List ℕ) → (if b then Some x else Some y) ≡ Some (if b then x else y)
 if_some true x y = refl
 if_some false x y = refl
 
-pub keeps_auto : (o : PlainOptions) → o.plan ≡ Auto → KeepsThere o (λ size file before. if nat_lt 16777216 (length file) then option_map (λ _. packs size (lines file)) before else before)
+pub keeps_auto : (o : PlainOptions) → o.plan ≡ Auto → KeepsThere o (λ size file before. if goes_to_pages size file then option_map (λ _. packs (page_size size) (lines file)) before else before)
 keeps_auto o is = record {
   each = λ file before.
-      if_some (nat_lt 16777216 (length file)) (packs o.buffer (lines file)) before
-      ∙ ap (λ k. Some (if goes_there k file then pages_of k o.buffer (lines file) else before)) (sym is);
+      if_some (goes_to_pages o.buffer file) (packs (page_size o.buffer) (lines file)) before
+      ∙ ap (λ k. Some (if goes_there k o.buffer file then pages_of k o.buffer (lines file) else before)) (sym is);
 }
 
 pages_or-else : (o : PlainOptions) (before file : List ℕ) (b : Bool) (last : Option (List ℕ)) → pages_or o (if b then pages_of o.plan o.buffer (lines file) else before) last ≡ pages_or o before (option_or last (cond b (Some file) None))
@@ -62,19 +63,19 @@ pub behind_all : (o : PlainOptions) (scratch_after : ℕ → List ℕ → Option
 behind_all o scratch_after keeps [] before = refl
 behind_all o scratch_after keeps (file ∷ more) before =
     ap (λ s. scratch_behind scratch_after o.buffer s more) (keeps.each file before)
-    ∙ behind_all o scratch_after keeps more (if goes_there o.plan file then pages_of o.plan o.buffer (lines file) else before)
+    ∙ behind_all o scratch_after keeps more (if goes_there o.plan o.buffer file then pages_of o.plan o.buffer (lines file) else before)
     ∙ ap (λ (l : List ℕ). Some l) (
-    pages_or-else o before file (goes_there o.plan file) (find (goes_there o.plan) (reverse more))
-    ∙ ap (λ x. pages_or o before x) (sym (find-append (goes_there o.plan) (reverse more) (file ∷ [])))
-    ∙ ap (λ l. pages_or o before (find (goes_there o.plan) l)) (sym (reverse-append (file ∷ []) more)))
+    pages_or-else o before file (goes_there o.plan o.buffer file) (find (goes_there o.plan o.buffer) (reverse more))
+    ∙ ap (λ x. pages_or o before x) (sym (find-append (goes_there o.plan o.buffer) (reverse more) (file ∷ [])))
+    ∙ ap (λ l. pages_or o before (find (goes_there o.plan o.buffer) l)) (sym (reverse-append (file ∷ []) more)))
 
-none_there : (taken : List (List ℕ)) → find (goes_there Whole) taken ≡ None
-none_there [] = refl
-none_there (file ∷ more) = none_there more
+none_there : (size : ℕ) (taken : List (List ℕ)) → find (goes_there Whole size) taken ≡ None
+none_there size [] = refl
+none_there size (file ∷ more) = none_there size more
 
 -- a plan without a scratch leaves it as it was
 pub behind_none : (o : PlainOptions) → o.plan ≡ Whole → (taken : List (List ℕ)) (before : List ℕ) → scratch_behind_all o taken before ≡ before
-behind_none o is taken before = ap (λ k. pages_or o before (find (goes_there k) (reverse taken))) is ∙ ap (λ x. pages_or o before x) (none_there (reverse taken))
+behind_none o is taken before = ap (λ k. pages_or o before (find (goes_there k o.buffer) (reverse taken))) is ∙ ap (λ x. pages_or o before x) (none_there o.buffer (reverse taken))
 
 -- ---- a plan with a scratch
 

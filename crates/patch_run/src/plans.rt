@@ -15,7 +15,7 @@ use page_pair::PagePair;
 use patch_options::{Options, PlanKind};
 use patch_set::PatchSet;
 use patch_task::RunFault;
-use plan_a::{AutoPlan, PlanA};
+use plan_a::{AutoPlan, PlanA, page_size};
 use plan_b::PlanB;
 use std::alloc::Global;
 
@@ -131,7 +131,7 @@ fn apply_packed<C: Scratch, T: Tree, O: Sink>(
     (applied, scratch)
 }
 
-/// A small file is held in memory, and a large one on packed pages in the scratch.
+/// A small file is held in memory, and a large one on packed pages in the scratch, if its lines fit them.
 fn apply_by_size<C: Scratch, T: Tree, O: Sink>(
     alloc: Global,
     options: &Options,
@@ -151,7 +151,7 @@ fn apply_by_size<C: Scratch, T: Tree, O: Sink>(
     ensures rows { length set.new.verdicts ≡ length set.old.verdicts }
     ensures rest { O.same_rest out.old out.new }
 {
-    let pair = match PagePair::new(alloc, options.buffer as usize) {
+    let pair = match PagePair::new(alloc, page_size(options.buffer) as usize) {
         Ok(pair) => pair,
         Err(_) => return (Err(RunFault::Memory), scratch),
     };

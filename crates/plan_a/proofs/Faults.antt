@@ -10,7 +10,7 @@ use Rattle.line_store.specs.Store.{Seen}
 use Rattle.line_store.specs.Taking.{HasOpenCause}
 use Rattle.plan_a.specs.Taken.{HasTextCause}
 
-open-cause-more : (e : OpenFault) (before after : Seen) (t u v : TreeView) (name : List ℕ) → IsUntouched t u → Passes t u → HasOpenCause e before after u v name → HasOpenCause e before after t v name
+pub open-cause-more : (e : OpenFault) (before after : Seen) (t u v : TreeView) (name : List ℕ) → IsUntouched t u → Passes t u → HasOpenCause e before after u v name → HasOpenCause e before after t v name
 open-cause-more Tree before after t u v name un p h = rises_then t u v p h
 open-cause-more Scratch before after t u v name un p h = h
 open-cause-more (LongLine line length) before after t u v name un p h = (h.0, λ f told. h.1 f (un.told ∙ told))

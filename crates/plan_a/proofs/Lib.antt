@@ -3,3 +3,4 @@ pub mod FirstLong
 pub mod Faults
 pub mod Ranges
 pub mod PlaceLemmas
+pub mod Wider

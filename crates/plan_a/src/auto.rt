@@ -1,7 +1,7 @@
 //! A plan that is chosen by the size of each file.
-ghost use Rattle.std.specs.Prelude.{◌≡◌, if◌then◌else◌, false, nat_lt, length};
-ghost use Rattle.line_store.specs.Taking.{IsReset, IsEmpty};
-ghost use Rattle.plan_a.specs.Auto.{auto_seen, auto_counted, small_counted};
+ghost use Rattle.std.specs.Prelude.{◌≡◌, if◌then◌else◌, false};
+ghost use Rattle.line_store.specs.Taking.{IsSize, IsBuffer, IsReset, IsEmpty};
+ghost use Rattle.plan_a.specs.Auto.{auto_seen, auto_counted, small_counted, page_size, goes_to_pages, is_within};
 
 use crate::PlanA;
 use line_store::{Half, LineFault, LineStore, OpenFault, Plan, Stretch};
@@ -10,20 +10,33 @@ use outside::{Name, Tree};
 /// The longest file that is held in memory, in bytes.
 const LONGEST_SMALL: u64 = 16_777_216;
 
-/// A plan that holds a file of at most 16 MiB in memory, and hands a longer one to another plan.
+/// The largest size of a page.
+const LARGEST_PAGE: u32 = 1_048_576;
+
+/// The size of the pages of a plan for large files, beside a buffer of this size for small ones.
+pub fn page_size(buffer: u32) -> u32
+    requires { IsBuffer buffer }
+    ensures is { result ≡ page_size buffer }
+    ensures sized { IsSize result }
+{
+    u32::min(buffer, LARGEST_PAGE)
+}
+
+/// A plan that holds a file of at most 16 MiB in memory, and hands a longer one to another plan. A longer one with a line
+/// that is too long for the other plan's pages is held in memory too.
 #[derive(Drop)]
 pub struct AutoPlan<P: Plan> {
     small: PlanA,
     big: P,
     /// The file that was taken last is in the other plan.
     is_big: bool,
-    ghost sizes: { (⟦<PlanA as LineStore>⟧.seen small).size ≡ (P.seen big).size },
+    ghost sizes: { (P.seen big).size ≡ page_size (⟦<PlanA as LineStore>⟧.seen small).size },
 }
 
 impl<P: Plan> AutoPlan<P> {
-    /// Both plans have buffers of the same size.
+    /// A line may be as long as the first plan admits. The other one has pages for that, or as large as pages can be.
     pub fn new(small: PlanA, big: P) -> AutoPlan<P>
-        requires sizes { (⟦<PlanA as LineStore>⟧.seen small).size ≡ (P.seen big).size }
+        requires sizes { (P.seen big).size ≡ page_size (⟦<PlanA as LineStore>⟧.seen small).size }
         requires empty { IsEmpty (⟦<PlanA as LineStore>⟧.seen small) }
         requires reset { IsReset (⟦<PlanA as LineStore>⟧.seen small) }
         ensures seen { ⟦<AutoPlan<P> as LineStore>⟧.seen result ≡ auto_seen false (⟦<PlanA as LineStore>⟧.seen small) (P.seen big) }
@@ -112,18 +125,28 @@ impl<P: Plan> LineStore for AutoPlan<P> {
 }
 
 impl<P: Plan> Plan for AutoPlan<P> {
-    ghost scratch_after = { λ size file before. if nat_lt 16777216 (length file) then P.scratch_after size file before else before };
+    ghost scratch_after = { λ size file before. if goes_to_pages size file then P.scratch_after (page_size size) file before else before };
 
-    ghost sized = { λ p. P.sized p.big };
+    ghost sized = { λ p. p.small.sized };
 
     fn take_file<T: Tree>(&mut self, tree: &mut T, name: &Name) -> Result<(), OpenFault> {
-        self.take_empty();
+        self.is_big = false;
+        self.small.take_empty();
         let size = tree.size(name)?.unwrap_or(0);
-        self.is_big = size > LONGEST_SMALL;
-        if self.is_big {
-            self.big.take_file(tree, name)
-        } else {
-            self.small.take_file(tree, name)
+        if size <= LONGEST_SMALL {
+            return self.small.take_file(tree, name);
+        }
+        match self.big.take_file(tree, name) {
+            Ok(()) => {
+                self.is_big = true;
+                Ok(())
+            }
+            Err(fault) => {
+                if is_within(fault, self.small.buffer) {
+                    return self.small.take_file(tree, name);
+                }
+                Err(fault)
+            }
         }
     }
 
@@ -134,5 +157,15 @@ impl<P: Plan> Plan for AutoPlan<P> {
 
     fn needs_memory(&self) -> bool {
         true
+    }
+}
+
+/// Whether a fault is that of a line which a buffer of this size admits.
+fn is_within(fault: OpenFault, buffer: u32) -> bool
+    ensures { result ≡ is_within buffer fault }
+{
+    match fault {
+        OpenFault::LongLine { length, .. } => length <= buffer.saturating_sub(4) as u64,
+        _ => false,
     }
 }

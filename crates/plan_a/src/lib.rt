@@ -2,7 +2,7 @@
 #![tactic(auto)]
 
 ghost use Rattle.std.specs.Prelude.{◌≡◌, ◌≤◌, true};
-ghost use Rattle.line_store.specs.Taking.{IsSize, IsReset, IsEmpty};
+ghost use Rattle.line_store.specs.Taking.{IsBuffer, IsReset, IsEmpty};
 
 mod auto;
 mod cut;
@@ -10,7 +10,7 @@ mod places;
 mod text;
 
 use crate::text::{Text, take_text};
-pub use auto::AutoPlan;
+pub use auto::{AutoPlan, page_size};
 use line_store::{Half, Halves, LineFault, LineStore, OpenFault, Plan, Stretch};
 use outside::{Name, Tree};
 use std::alloc::Global;
@@ -22,13 +22,13 @@ pub struct PlanA {
     buffer: u32,
     text: Text,
     halves: Halves,
-    ghost sized: { IsSize buffer },
+    ghost sized: { IsBuffer buffer },
 }
 
 impl PlanA {
     /// A plan that stands for no lines and takes no memory yet. A line with its line feed may have `buffer` - 4 bytes.
     pub fn new(alloc: Global, buffer: u32) -> PlanA
-        requires { IsSize buffer }
+        requires { IsBuffer buffer }
         ensures size { (⟦<PlanA as LineStore>⟧.seen result).size ≡ buffer }
         ensures memory { (⟦<PlanA as LineStore>⟧.seen result).needs_memory ≡ true }
         ensures faults { (⟦<PlanA as LineStore>⟧.seen result).faults ≡ 0 }

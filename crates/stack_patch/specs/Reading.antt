@@ -57,7 +57,7 @@ push_options = record {
   silent = false;
   verbose = false;
   plan = Auto;
-  buffer = 1048576;
+  buffer = 4294967295;
   sync = Each;
 }
 

@@ -71,7 +71,7 @@ pub fn push_options() -> Options
         silent: false,
         verbose: false,
         plan: PlanKind::Auto,
-        buffer: 1_048_576,
+        buffer: u32::MAX,
         sync: SyncKind::Each,
     }
 }

@@ -3,6 +3,7 @@ use Rattle.std.specs.Prelude.{◌≡◌, ℕ, ◌*◌, ◌≤◌, List, All, map
 use Rattle.std.specs.Option.{ForSome}
 use Rattle.hunk_core.specs.declared.Form.{Form}
 use Rattle.outside.specs.Files.{is_temp}
+use Rattle.patch_options.specs.Forms.{largest_buffer}
 use Rattle.patch_options.specs.declared.options.Input.{Input}
 use Rattle.patch_options.specs.declared.options.PlanKind.{PlanKind}
 use Rattle.patch_options.specs.declared.options.SyncKind.{SyncKind}
@@ -163,7 +164,7 @@ pub record IsSize (j : PlainGenJob) : Type 0 where
   pub few_lines : j.lines ≤ 9999999
   pub few : j.files * j.lines ≤ 10000000
   pub least : 512 ≤ j.buffer
-  pub most : j.buffer ≤ 1048576
+  pub most : j.buffer ≤ largest_buffer j.plan
 
 -- the parts of a text are no temporaries; the other tools' jobs may be any
 abbrev pub IsLawfulToolJob : PlainToolJob → Type 0

@@ -130,7 +130,7 @@ pub struct GenJob {
     /// The lines of each file, from 20 to 9,999,999; those of all files are at most 10,000,000.
     pub lines: u32,
     pub plan: PlanKind,
-    /// The size of a page in bytes, from 512 to 1,048,576.
+    /// The size of a buffer in bytes, from 512 to 1,048,576, or that of the plan where none is given.
     pub buffer: u32,
     pub sync: SyncKind,
 }

@@ -207,7 +207,7 @@ pub const BUFFER: Word = Word {
     letter: None,
     name: "buffer",
     shown: "--buffer=N",
-    help: "bytes of a buffer, 512 to 1048576 (auto: that)",
+    help: "bytes of a buffer, 512 to 1048576",
 };
 
 pub const SYNC: Word = Word {

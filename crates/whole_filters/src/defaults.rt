@@ -82,7 +82,7 @@ fn default_options(skip_binary: bool) -> Options
         silent: false,
         verbose: false,
         plan: PlanKind::Auto,
-        buffer: 1_048_576,
+        buffer: u32::MAX,
         sync: SyncKind::Each,
     }
 }

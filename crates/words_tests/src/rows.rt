@@ -11,7 +11,7 @@ const PLAIN: &str =
     batch: false, forward: false, loose: false, remove_empty: false, backup: false, \
     mismatch_backup: true, suffix: None, prefix: None, dir: None, file: None, \
     input: Standard, output: None, reject: None, no_rejects: false, reject_form: None, \
-    define: None, posix: false, keep_returns: false, skip_binary: false, dry_run: false, follow_links: false, silent: false, verbose: false, plan: Auto, buffer: 1048576, sync: Each }))";
+    define: None, posix: false, keep_returns: false, skip_binary: false, dry_run: false, follow_links: false, silent: false, verbose: false, plan: Auto, buffer: 4294967295, sync: Each }))";
 
 /// What the words of a row give.
 fn answer(alloc: Global, row: &str) -> Result<String, AllocError> {

@@ -158,7 +158,7 @@ patch|--fuzz|3 => fuzz: 3
 patch|-F007 => fuzz: 7
 patch|-F|4294967295 => fuzz: 4294967295
 patch|--buffer|512 => buffer: 512
-patch|--buffer=1048576 =>
+patch|--buffer=1048576 => buffer: 1048576
 patch|--buffer=000512 => buffer: 512
 patch|--buffer=65536 => buffer: 65536
 patch|-p1|-p1 => strip: Some(1)
@@ -200,16 +200,16 @@ grepdiff|-nvs|-Xd|--strip=1|--addprefix=a|--only-match=additions|x => Ok(Grep(Gr
 splitdiff|-a|./a//f/ => Ok(Split(SplitJob { input: "a/f", every: true, skip_binary: false, sync: Each }))
 splitdiff|--skip-binary|f => Ok(Split(SplitJob { input: "f", every: false, skip_binary: true, sync: Each }))
 recountdiff|- => Ok(Recount(Standard))
-patchgen|0|1|20 => Ok(Gen(GenJob { seed: 0, files: 1, lines: 20, plan: Auto, buffer: 1048576, sync: Each }))
-patchgen|4294967295|1|20 => Ok(Gen(GenJob { seed: 4294967295, files: 1, lines: 20, plan: Auto, buffer: 1048576, sync: Each }))
-patchgen|7|1000|10000 => Ok(Gen(GenJob { seed: 7, files: 1000, lines: 10000, plan: Auto, buffer: 1048576, sync: Each }))
-patchgen|0|1|9999999 => Ok(Gen(GenJob { seed: 0, files: 1, lines: 9999999, plan: Auto, buffer: 1048576, sync: Each }))
-patchgen|0|2|5000000 => Ok(Gen(GenJob { seed: 0, files: 2, lines: 5000000, plan: Auto, buffer: 1048576, sync: Each }))
-patchgen|007|001|0020 => Ok(Gen(GenJob { seed: 7, files: 1, lines: 20, plan: Auto, buffer: 1048576, sync: Each }))
+patchgen|0|1|20 => Ok(Gen(GenJob { seed: 0, files: 1, lines: 20, plan: Auto, buffer: 4294967295, sync: Each }))
+patchgen|4294967295|1|20 => Ok(Gen(GenJob { seed: 4294967295, files: 1, lines: 20, plan: Auto, buffer: 4294967295, sync: Each }))
+patchgen|7|1000|10000 => Ok(Gen(GenJob { seed: 7, files: 1000, lines: 10000, plan: Auto, buffer: 4294967295, sync: Each }))
+patchgen|0|1|9999999 => Ok(Gen(GenJob { seed: 0, files: 1, lines: 9999999, plan: Auto, buffer: 4294967295, sync: Each }))
+patchgen|0|2|5000000 => Ok(Gen(GenJob { seed: 0, files: 2, lines: 5000000, plan: Auto, buffer: 4294967295, sync: Each }))
+patchgen|007|001|0020 => Ok(Gen(GenJob { seed: 7, files: 1, lines: 20, plan: Auto, buffer: 4294967295, sync: Each }))
 patchgen|--plan=a|0|1|20 => Ok(Gen(GenJob { seed: 0, files: 1, lines: 20, plan: Whole, buffer: 65536, sync: Each }))
 patchgen|--plan|b|0|1|20 => Ok(Gen(GenJob { seed: 0, files: 1, lines: 20, plan: Padded, buffer: 65536, sync: Each }))
 patchgen|0|1|20|--plan=packed => Ok(Gen(GenJob { seed: 0, files: 1, lines: 20, plan: Packed, buffer: 65536, sync: Each }))
-patchgen|0|--plan=auto|1|20 => Ok(Gen(GenJob { seed: 0, files: 1, lines: 20, plan: Auto, buffer: 1048576, sync: Each }))
+patchgen|0|--plan=auto|1|20 => Ok(Gen(GenJob { seed: 0, files: 1, lines: 20, plan: Auto, buffer: 4294967295, sync: Each }))
 patchgen|--buffer=512|0|1|20 => Ok(Gen(GenJob { seed: 0, files: 1, lines: 20, plan: Auto, buffer: 512, sync: Each }))
 patchgen|--buffer|1048576|0|1|20 => Ok(Gen(GenJob { seed: 0, files: 1, lines: 20, plan: Auto, buffer: 1048576, sync: Each }))
 patchgen|--plan=b|--buffer=4096|7|3|40 => Ok(Gen(GenJob { seed: 7, files: 3, lines: 40, plan: Padded, buffer: 4096, sync: Each }))

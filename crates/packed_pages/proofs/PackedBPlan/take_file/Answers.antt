@@ -1,6 +1,7 @@
-use Rattle.std.proofs.Common.{◌≡◌, Some, is_some, sym, ap, ◌∙◌}
+use Rattle.std.proofs.Common.{◌≡◌, Some, is_some, sym, ap, subst, ◌∙◌}
 use Rattle.std.specs.Option.{option_map}
 use Rattle.outside.specs.Files.{bytes_at}
+use Rattle.line_store.specs.Taking.{KeepsAtLong}
 use Rattle.page_pair.specs.Reading.{told_file}
 use Rattle.packed_pages.proofs.HeldLemmas.{empty-seen, empty-held, no-place}
 use Rattle.packed_pages.proofs.Takings.{written-held, written-takes, written-scratch}
@@ -40,3 +41,6 @@ returns-clause-scratch g c f told =
 
 pub returns-in-Err-clause-refused : goal.returns-in-Err-clause-refused
 returns-in-Err-clause-refused g c = empty-seen c.take_empty.new.self.layout c.take_empty.new.self.places (g.C.Scratch.view c.take_pages.new.scratch) c.take_empty.ensures.empty.count
+
+pub returns-in-Err-clause-measured : goal.returns-in-Err-clause-measured
+returns-in-Err-clause-measured g c = subst (λ s. KeepsAtLong c.in-Err.fault s (g.C.Scratch.view c.take_pages.new.scratch).told) c.take_empty.ensures.scratch.scratch c.in-Err.ensures.kept

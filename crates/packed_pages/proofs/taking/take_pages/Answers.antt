@@ -3,7 +3,8 @@ use Rattle.std.proofs.Common.{◌∙◌, refl, sym, subst, arith}
 use Rattle.outside.proofs.Views.{untouched_both}
 use Rattle.page_pair.proofs.Readings.{told-same, take-later}
 use Rattle.packed_pages.specs.Copying.{IsWritten}
-use Rattle.page_pair.proofs.Told.{open-cause}
+use Rattle.page_pair.proofs.Told.{open-cause, take-kept}
+use Rattle.line_store.proofs.StoreLemmas.{kept-at-long}
 use Rattle.packed_pages.proofs.taking.take_pages.Goals as goal
 
 pub returns-in-Err-measure_layout-clause-untouched : goal.returns-in-Err-measure_layout-clause-untouched
@@ -20,6 +21,7 @@ returns-in-Ok-copy_anew g c = record {
   measured = λ text told. c.in-Ok-measure_layout.ensures.lines text (told-same c.args.name.now c.in-Ok.ensures.untouched ∙ told);
   short = λ text told. omega (arith, c.in-Ok.ensures.size text told);
   cause = tt;
+  kept = tt;
 }
 
 pub returns-in-Err-copy_anew : goal.returns-in-Err-copy_anew
@@ -37,6 +39,7 @@ returns-in-Err-copy_anew g c = record {
       let tree = g.T.Tree.view in
       open-cause c.in-Err-copy_anew.fault c.args.pair.now.size (scratch c.args.scratch.now) (scratch c.copy_anew.new.scratch) (tree c.args.tree.now) (tree c.copy_anew.new.tree) c.args.name.now
       (take-later c.in-Err-copy_anew.fault (scratch c.args.scratch.now) (scratch c.args.scratch.now) (scratch c.copy_anew.new.scratch) (tree c.args.tree.now) (tree c.measure_layout.new.tree) (tree c.copy_anew.new.tree) (scratch_passes_none _) (untouched_both c.size_of.ensures.untouched c.measure_layout.ensures.untouched) c.in-Err-copy_anew.ensures.cause));
+  kept = take-kept c.in-Err-copy_anew.fault (g.C.Scratch.view c.args.scratch.now) (g.C.Scratch.view c.copy_anew.new.scratch) _ _ c.in-Err-copy_anew.ensures.cause;
 }
 
 pub returns-in-Err-measure_layout-clause-layout : goal.returns-in-Err-measure_layout-clause-layout
@@ -134,3 +137,12 @@ copy_anew-requires-clause-stated g c text told = c.in-Ok.ensures.size text (sym 
 
 pub measure_layout-requires-clause-stated : goal.measure_layout-requires-clause-stated
 measure_layout-requires-clause-stated g c text told = c.in-Ok.ensures.size text (sym (told-same c.args.name.now c.in-Ok.ensures.untouched) ∙ told)
+
+pub returns-in-Err-clause-kept : goal.returns-in-Err-clause-kept
+returns-in-Err-clause-kept g c = kept-at-long c.in-Err.fault _ _ refl
+
+pub returns-in-Err-measure_layout-clause-kept : goal.returns-in-Err-measure_layout-clause-kept
+returns-in-Err-measure_layout-clause-kept g c = kept-at-long c.in-Err-measure_layout.fault _ _ refl
+
+pub returns-then-total-ge-TOO_LONG-clause-kept : goal.returns-then-total-ge-TOO_LONG-clause-kept
+returns-then-total-ge-TOO_LONG-clause-kept g c = tt

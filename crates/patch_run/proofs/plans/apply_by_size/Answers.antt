@@ -16,7 +16,7 @@ returns-clause-finishes g c =
       told_after = sym (ap (λ (s : ScratchView). s.told) same);
       faults = ◌∙◌ {b = given.faults} (ap (λ (s : Seen). s.faults) c.new-either.ensures.seen) c.new-2.ensures.faults;
       faults_after = sym (ap (λ (s : ScratchView). s.faults) same);
-      size = ◌∙◌ {b = c.new-2.result.layout.size} (ap (λ (s : Seen). s.size) c.new-either.ensures.seen) (c.new-2.ensures.size ∙ c.in-Ok.ensures.size);
+      size = ◌∙◌ {b = c.new-small.result.buffer} (ap (λ (s : Seen). s.size) c.new-either.ensures.seen) c.new-small.ensures.size;
       has = ap has_scratch c.requires.plan;
       memory = λ all. let not : false ≡ true = sym (ap is_paged c.requires.plan) ∙ all in absurd (cc);
       keeps = keeps_auto (plain_options c.args.options.now) c.requires.plan;

@@ -1,5 +1,6 @@
-use Rattle.std.proofs.Common.{sym, ap, ◌∙◌}
+use Rattle.std.proofs.Common.{◌≤◌, sym, ap, subst, ◌∙◌}
 use Rattle.outside.specs.ScratchView.{ScratchView}
+use Rattle.patch_options.specs.Forms.{largest_buffer}
 use Rattle.patch_options.specs.PlainJob.{plain_options}
 use Rattle.patch_run.specs.Scratches.{has_scratch}
 use Rattle.patch_run.proofs.Finishing.{finishes_paged, finishes_without_pages, verdicts_paged, rows_paged, keeps_packed}
@@ -27,3 +28,6 @@ returns-in-Err-clause-finishes g c = finishes_without_pages (plain_options c.arg
 
 pub returns-clause-noted : goal.returns-clause-noted
 returns-clause-noted g c = rows_paged (g.C.Scratch.view c.args.scratch) (plain_options c.args.options.now) c.args.set.now _ _ c.apply_set-applied.result c.apply_set-applied.ensures.runs c.apply_set-applied.ensures.receipt c.new-packed.ensures.scratch (ap has_scratch c.requires.plan)
+
+pub new-requires : goal.new-requires
+new-requires g c = (c.requires.can.lawful.least, subst (λ k. c.args.options.now.buffer ≤ largest_buffer k) c.requires.plan c.requires.can.lawful.most)

@@ -1,7 +1,8 @@
-use Rattle.std.proofs.Common.{◌≡◌, Some, is_some, sym, ap, ◌∙◌}
+use Rattle.std.proofs.Common.{◌≡◌, Some, is_some, sym, ap, subst, ◌∙◌}
 use Rattle.std.specs.Option.{option_map}
 use Rattle.std.proofs.lemmas.Option.{none-some}
 use Rattle.outside.specs.Files.{bytes_at}
+use Rattle.line_store.specs.Taking.{KeepsAtLong}
 use Rattle.page_pair.specs.Reading.{told_file}
 use Rattle.plan_b.proofs.Takings.{empty-seen, written-held, written-takes, written-scratch}
 use Rattle.plan_b.proofs.PlanBPlan.take_file.Goals as goal
@@ -32,3 +33,6 @@ returns-in-Ok-clause-scratch g c f told =
 
 pub returns-in-Err-clause-refused : goal.returns-in-Err-clause-refused
 returns-in-Err-clause-refused g c = empty-seen c.take_empty.new.self.layout c.take_empty.new.self.halves (g.C.Scratch.view c.take_pages.new.scratch) c.take_empty.ensures.empty.count
+
+pub returns-in-Err-clause-measured : goal.returns-in-Err-clause-measured
+returns-in-Err-clause-measured g c = subst (λ s. KeepsAtLong c.in-Err.fault s (g.C.Scratch.view c.take_pages.new.scratch).told) c.take_empty.ensures.scratch.scratch c.in-Err.ensures.kept

@@ -4,7 +4,8 @@ use Rattle.outside.specs.ScratchView.{scratch_passes_none}
 use Rattle.page_pair.proofs.Readings.{told-same, take-later}
 use Rattle.plan_b.specs.Copying.{IsWritten}
 use Rattle.outside.specs.Calls.{untouched_both}
-use Rattle.page_pair.proofs.Told.{open-cause}
+use Rattle.page_pair.proofs.Told.{open-cause, take-kept}
+use Rattle.line_store.proofs.StoreLemmas.{kept-at-long}
 use Rattle.plan_b.proofs.taking.take_pages.Goals as goal
 
 pub returns-in-Err-measure_layout-clause-untouched : goal.returns-in-Err-measure_layout-clause-untouched
@@ -21,6 +22,7 @@ returns-in-Ok-copy_anew g c = record {
   measured = λ text told. c.in-Ok-measure_layout.ensures.lines text (told-same c.args.name.now c.in-Ok.ensures.untouched ∙ told);
   short = λ text told. omega (arith, c.in-Ok.ensures.size text told);
   cause = tt;
+  kept = tt;
 }
 
 pub returns-in-Err-copy_anew : goal.returns-in-Err-copy_anew
@@ -38,6 +40,7 @@ returns-in-Err-copy_anew g c = record {
       let tree = g.T.Tree.view in
       open-cause c.in-Err-copy_anew.fault c.args.pair.now.size (scratch c.args.scratch.now) (scratch c.copy_anew.new.scratch) (tree c.args.tree.now) (tree c.copy_anew.new.tree) c.args.name.now
       (take-later c.in-Err-copy_anew.fault (scratch c.args.scratch.now) (scratch c.args.scratch.now) (scratch c.copy_anew.new.scratch) (tree c.args.tree.now) (tree c.measure_layout.new.tree) (tree c.copy_anew.new.tree) (scratch_passes_none _) (untouched_both c.size_of.ensures.untouched c.measure_layout.ensures.untouched) c.in-Err-copy_anew.ensures.cause));
+  kept = take-kept c.in-Err-copy_anew.fault (g.C.Scratch.view c.args.scratch.now) (g.C.Scratch.view c.copy_anew.new.scratch) _ _ c.in-Err-copy_anew.ensures.cause;
 }
 
 pub returns-in-Err-measure_layout-clause-layout : goal.returns-in-Err-measure_layout-clause-layout
@@ -135,3 +138,12 @@ measure_layout-requires-clause-few g c = omega arith
 
 pub measure_layout-requires-clause-stated : goal.measure_layout-requires-clause-stated
 measure_layout-requires-clause-stated g c text told = c.in-Ok.ensures.size text (sym (told-same c.args.name.now c.in-Ok.ensures.untouched) ∙ told)
+
+pub returns-in-Err-clause-kept : goal.returns-in-Err-clause-kept
+returns-in-Err-clause-kept g c = kept-at-long c.in-Err.fault _ _ refl
+
+pub returns-in-Err-measure_layout-clause-kept : goal.returns-in-Err-measure_layout-clause-kept
+returns-in-Err-measure_layout-clause-kept g c = kept-at-long c.in-Err-measure_layout.fault _ _ refl
+
+pub returns-then-total-ge-TOO_LONG-clause-kept : goal.returns-then-total-ge-TOO_LONG-clause-kept
+returns-then-total-ge-TOO_LONG-clause-kept g c = tt
