@@ -8,14 +8,18 @@ from filter_patterns import is_one_of, without_patches
 LISTED = []
 NAMED = []
 NULL_NAMES = (b'', b'src/f.c', b'f.c')  # what ours lists where both names are /dev/null: none, or that of the Index line
-LINE = re.compile(rb'([pq][:-])?(?:(\d*)\t)?(?:([-+!?]?) )?(.*)')
+LINE = re.compile(rb'([pq][:-])?(?:(\d*)\t)?(File #\d+ *\t)?(?:([-+!?]?) )?(.*)')
 
 
-def rewritten(out, of_line):
-    """The list with each line changed by a function of its number, sign and name; None leaves it out. The name of a file stays in front."""
+def rewritten(out, of_line, numbered=True):
+    """
+    The list with each line changed by a function of its number, sign and name; None leaves it out. The name of a file stays in front, and
+    the number of a file patch behind that of its line, but where that depends on what is left out.
+    """
     lines = [LINE.fullmatch(line).groups() for line in out.split(b'\n')[:-1]]
-    found = ((file, of_line(*line)) for file, *line in lines)
-    return b''.join(b'%s%s\t%s %s\n' % tuple(word or b'' for word in (file, *line)) for file, line in found if line)
+    found = ((file, place if numbered else b'', of_line(number, *line)) for file, number, place, *line in lines)
+    words = ((file, line[0], place, *line[1:]) for file, place, line in found if line)
+    return b''.join(b'%s%s\t%s%s %s\n' % tuple(word or b'' for word in line) for line in words)
 
 
 def without_named(case, out, odd, besides=()):
@@ -24,7 +28,7 @@ def without_named(case, out, odd, besides=()):
     if case.runs[0].tool == 'filterdiff' or not names:
         return without_patches(out, names)
     odd_name = lambda name: name in besides or any(is_one_of(name, some) for some in names)  # noqa: E731
-    return rewritten(out, lambda number, sign, name: None if odd_name(name) else (number, sign, name))
+    return rewritten(out, lambda number, sign, name: None if odd_name(name) else (number, sign, name), False)
 
 
 @change(NAMED, 'double-slashes')
@@ -74,9 +78,10 @@ def with_header_lines(case, out):
 
 @change(LISTED, 'numbers-per-file')
 def without_numbers(case, out):
-    """No numbers of lines, where several files are listed: patchutils counts on from one to the next."""
+    """No numbers of lines and of file patches, where several files are listed: patchutils counts on from one to the next."""
     if not {'p', 'q'} <= set(case.runs[0].words):
         return out
+    out = re.sub(rb'(?m)^([pq]:(?:\d*\t)?)File #\d+ *\t', rb'\1', out)
     return re.sub(rb'(?m)^([pq](?::|-\t ?))\d+\t', rb'\1\t', out)
 
 
@@ -92,7 +97,7 @@ def lone_names(text):
 def without_lone_files(case, out):
     """No file that git makes, removes, renames or copies without a hunk, and none of header lines that have none."""
     names = lone_names(text_of(case)) + [name for names, hunks in file_patches(text_of(case)) if not hunks for name in names]
-    return rewritten(out, lambda number, sign, name: None if is_one_of(name, names) else (number, sign, name))
+    return rewritten(out, lambda number, sign, name: None if is_one_of(name, names) else (number, sign, name), not names)
 
 
 def header_lines(text):
@@ -105,7 +110,7 @@ def without_lone_headers(case, out):
     """No name of a header line that stands alone, and none that is empty, as of hunks without header lines."""
     lines = [line for part in parts(text_of(case)) if part.kind == 'text' for line in part.lines if BEGINS.match(line)]
     names = [b'', *(line[4:].split(b'\t')[0] for line in lines)] if case.facts.get('damaged') else []
-    return rewritten(out, lambda number, sign, name: None if is_one_of(name, names) else (number, sign, name))
+    return rewritten(out, lambda number, sign, name: None if is_one_of(name, names) else (number, sign, name), not names)
 
 
 WHOLE_STAMP = re.compile(rb'\t(\(.*\)|20\d\d-\d\d-\d\d \d\d:\d\d:\d\d\.\d+ [-+]\d{4})?$|^[^\t ]*$')

@@ -98,20 +98,6 @@ def without_lone_headers(case, out):
     return joined(with_hunks(parts(out)))
 
 
-@change(WRITTEN, 'lines-of-zero')
-def without_made_files(case, out):
-    """No file patch that makes a file, where hunks are chosen by lines."""
-    if not any(word.startswith('--lines=') for word in case.runs[0].words):
-        return out
-    return joined(with_hunks([part for part in parts(out) if part.kind != 'hunk' or not of_line_zero(part)]))
-
-
-def of_line_zero(hunk):
-    """Whether a hunk has old line 0."""
-    first = next(line for line in hunk.lines if RANGES.match(line) or HALF.match(line))
-    return bool(re.match(rb'@@ -0,|\*\*\* 0 ', first))
-
-
 @change(FORMATTED, 'format-text')
 def without_hunk_text(case, out):
     """No lines of git or diff in front of header lines, nothing behind range lines."""

@@ -42,12 +42,10 @@ def refused_words(case, theirs, ours, found):
 
 
 def refused_text(case, theirs, ours, found):
-    """Ours refuses the text: one with a binary change, or one that lost a line."""
-    said = re.search(r'\*\*\*\* (malformed patch at line \d+: (.*)|Only garbage was found.*)', told(ours))
+    """Ours refuses the text, as one that lost a line."""
+    said = re.search(r'\*\*\*\* (malformed patch at line \d+: |Only garbage was found)', told(ours))
     if ours.status != [2] or not said:
         return []
-    if said.group(2) == 'a binary change':
-        return ['filter-binary']
     return ['filter-refuses'] if case.facts.get('damaged') else []
 
 

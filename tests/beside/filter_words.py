@@ -9,9 +9,9 @@ LONG = [
     (r'--(hunk|excl|fo)=', 'filter-words'),
 ]
 LETTERS = {
-    'lsdiff': {'N': 'filter-words', 'z': 'filter-words'},
+    'lsdiff': {'z': 'filter-words'},
     'grepdiff': dict.fromkeys('Nfz', 'filter-words'),
-    'filterdiff': {'v': 'text-between', '#': 'filter-words', 'F': 'filter-words', 'z': 'filter-words', 'n': 'filter-words'},
+    'filterdiff': {'v': 'text-between', 'z': 'filter-words', 'n': 'filter-words'},
     'splitdiff': dict.fromkeys('dDEpv', 'split-names'),
     'recountdiff': {},
 }
@@ -24,11 +24,6 @@ def key_of_letters(tool, word):
     return next((letters[letter] for letter in word[1:] if letter in letters), None)
 
 
-def key_of_range(word):
-    """The key of a range that ours can't take: one that begins with x, holds 0 or is all."""
-    return 'lines-of-zero' if word == '-' or re.fullmatch(r'x[\d,-]+|[\d,-]*\b0\b[\d,-]*', word) else None
-
-
 def key_of_word(tool, word):
     """The key of a word, or None."""
     if word == '--verbose':
@@ -37,7 +32,7 @@ def key_of_word(tool, word):
         return next((key for pattern, key in LONG if re.match(pattern, word)), None)
     if word.startswith('-') and len(word) > 1:
         return key_of_letters(tool, word)
-    return key_of_range(word)
+    return None
 
 
 def option_of(word):

@@ -94,8 +94,8 @@ def is_epoch(stamp):
 
 
 def is_plain_epoch(stamp):
-    """Whether a stamp is 1970 as `diff -u` writes it, or `diff -c` in UTC."""
-    return bool(re.fullmatch(rb"\t(?:(?:1970-01-01|1969-12-31) [\d:.]+ [+-]\d{4}|Thu Jan  1 00:00:00 1970)", stamp))
+    """Whether a stamp is 1970 as `diff -u` or `diff -c` writes it in some zone."""
+    return bool(re.fullmatch(rb"\t(?:(?:1970-01-01|1969-12-31) [\d:.]+ [+-]\d{4}|(?:Wed Dec 31|Thu Jan  1|Fri Jan  2) [\d:]+ (?:1969|1970))", stamp))
 
 
 def told(left):

@@ -26,11 +26,11 @@ class Told:
 CASES = []
 
 
-def tell(key, tree, text, *words, shows=None, printed=b"", env=None):
+def tell(key, tree, text, *words, shows=None, printed=b"", env=None, times=None):
     """Adds the case of a patch text, handed in on standard input, with words."""
     if all(isinstance(each, bytes) for each in tree.values()):
         tree = files(tree)
-    case = Case("told", tree, [Run(list(words) or ["-p0"], text)], env=env or {})
+    case = Case("told", tree, [Run(list(words) or ["-p0"], text)], env=env or {}, facts={"times": times} if times else {})
     CASES.append(Told(key, case, shows, printed))
 
 
@@ -84,7 +84,8 @@ tell("directories-made", {b"f": b"a\n"}, ONE, "-p0", "-o", "d/o")
 tell("output-empty", {b"f": b"a\n"}, b"", "-o", "o", "f")
 tell("option-words", {b"f": b"a\n"}, ONE, "-p0", "--backup-if-mismatch", "--no-backup-if-mismatch")
 tell("narrow-values", {b"f": b"a\n"}, ONE, "-p0", "-D", "A B")
-tell("set-times", {b"f": b"a\n"}, ONE, "-p0", "-T")
+tell("set-times", {b"f": b"a\n"}, ONE.replace(b" f\n", b" f\t2009-03-13 00:00:00\n"), "-p0", "-Z", printed=b"Not setting time")
+tell("backup-times", {b"f": b"a\n"}, ONE, "-p0", "-b", shows=("time", b"f.orig"), times={b"f": 1000000000})
 tell("backup-names", {b"f": b"a\n"}, ONE, "-p0", "-b", "-V", "numbered")
 tell("reserved-names", {b"f.ptmp": b"a\n"}, ONE.replace(b" f\n", b" f.ptmp\n"))
 tell("merge", {b"f": b"a\n"}, ONE, "-p0", "--merge")
@@ -94,7 +95,7 @@ tell("ed-names", {b"f": b"1\n2\n3\n"}, b"--- f\n+++ f\n1d\n", "-e")
 
 # What is left otherwise.
 tell("gone-already", {b"f": b""}, GONE, "-p0", "-f", shows=("extra", b"f"))
-tell("stamps-of-1970", {b"f": b"x\n"}, b"*** f\tWed Jan  2 00:00:00 2019\n--- f\tThu Jan  1 01:00:00 1970\n***************\n*** 1 ****\n- x\n--- 0 ----\n")
+tell("stamps-of-1970", {b"f": b"x\n"}, b"--- f\t2019-01-02 00:00:00 +0000\n+++ f\t1970-01-01 10:00:00 +0000\n@@ -1 +0,0 @@\n-x\n")
 tell("git-modes", {b"f": b"a\n"}, git(b"f", b"old mode 100644\nnew mode 100711\n"), "-p1")
 tell("git-batch", {b"f": b"a\n", b"g": b"b\n"}, git(b"g", b"similarity index 100%\nrename from f\nrename to g\n", b"f") + git(b"f", b"similarity index 100%\nrename from g\nrename to f\n", b"g"), "-p1")
 tell("failed-renames", {b"f": b"x\n"}, git(b"g", b"similarity index 50%\nrename from f\nrename to g\n--- a/f\n+++ b/g\n@@ -1 +1 @@\n-a\n+b\n", b"f"), "-p1", shows=("missing", b"g"))

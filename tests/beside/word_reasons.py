@@ -18,11 +18,18 @@ def flags(case):
     return [letter for word in letters for letter in re.match(r"[^iorzBYVDdFgp]*.?", word).group()] + re.findall(r"--([a-z-]+)", words_of(case))
 
 
+@REASONS.of("backup-times")
+def backup_times(case, gnu, ours, differences):
+    """Backups keep the old file's time with GNU patch, and have that of the run with ours."""
+    return [each for each in of(differences, "time") if each.ours == "now" and backed_up(case, each.name) is not None]
+
+
 @REASONS.of("set-times")
 def set_times(case, gnu, ours, differences):
-    """-T and -Z are refused."""
-    asked = has(case, "-T", "-Z") or re.search(r"--set-[tu]", words_of(case))
-    return differences if asked and is_answered(case, gnu, ours) else []
+    """With -T and -Z stamps without a zone are UTC for ours; GNU patch takes the local zone, and the epoch alone for that of no file."""
+    if not (has(case, "-T", "-Z") or re.search(r"--set-[tu]", words_of(case))):
+        return []
+    return of(differences, "time") + [each for each in of(differences, "missing") if each.gnu[2] == b""]
 
 
 @REASONS.of("merge")
@@ -33,8 +40,8 @@ def merge(case, gnu, ours, differences):
 
 @REASONS.of("backup-names")
 def backup_words(case, gnu, ours, differences):
-    """-V numbered and existing, and -Y are refused, and so are empty values, but not that of -B."""
-    asked = has(case, "-Y", "--basename-prefix") or re.search(r"-V \w|--version-control=|(-[BYz]|=)( |$)", words_of(case))
+    """-V numbered and existing are refused, and so are empty values, but not that of -B."""
+    asked = re.search(r"-V \w|--version-control=|(-[BYz]|=)( |$)", words_of(case))
     empty = gnu.status == [2] and any(b"backup prefix is empty" in text for text in gnu.out + gnu.err)
     return differences if empty or (asked and is_answered(case, gnu, ours)) else []
 

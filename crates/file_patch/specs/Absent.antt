@@ -1,11 +1,11 @@
 -- Which side of a file patch is no file: what it creates, and what it deletes (POSIX `patch`, "Filename Determination"; GNU patch manual, "Creating and Removing Files").
-use Rattle.std.specs.Prelude.{◌≡◌, ℕ, Bool, true, false, ◌&&◌, ◌||◌, ◌==◌, List, [], ◌∷◌, length, Option, None, Some, bytes_eq, codes, ℤ, pos, negsuc}
+use Rattle.std.specs.Prelude.{◌≡◌, ℕ, Bool, true, false, nat_lt, if◌then◌else◌, ◌&&◌, ◌||◌, ◌==◌, List, [], ◌∷◌, length, Option, None, Some, bytes_eq, codes, ℤ, pos, negsuc}
 use Rattle.hunk_core.specs.declared.Side.{Side}
 use Rattle.hunk_core.specs.declared.Side.TheVariants.{Forward, Reversed}
 use Rattle.hunk_core.specs.PlainHunk.{PlainHunk, lines_on}
 use Rattle.hunk_core.specs.Turned.{other_side}
 use Rattle.stamp.specs.declared.Stamp.{Stamp}
-use Rattle.stamp.specs.declared.Stamp.TheVariants.{Instant, Unknown}
+use Rattle.stamp.specs.declared.Stamp.TheVariants.{Known, Unknown}
 use Rattle.header_record.specs.declared.Action.{Action}
 use Rattle.file_patch.specs.declared.FilePatch.{FilePatch}
 use Rattle.file_patch.specs.Actions.{is_new, is_deleted}
@@ -25,13 +25,18 @@ abbrev pub is_null : Option (List ℕ) → Bool
 is_null None = false
 is_null (Some name) = bytes_eq name (codes "/dev/null")
 
--- 1970-01-01 00:00:00 UTC
+-- 1970-01-01 00:00:00 UTC, to a second
 abbrev pub is_zero : ℤ → Bool
 is_zero (pos n) = n == 0
 is_zero (negsuc n) = false
 
+-- less than 25 hours before that second or 26 hours behind it: wherever a clock stands, it may show that second so
+abbrev pub is_near_zero : ℤ → Bool
+is_near_zero (pos n) = nat_lt n 93_600
+is_near_zero (negsuc n) = nat_lt n 89_999
+
 abbrev pub is_epoch : Stamp → Bool
-is_epoch (Instant seconds) = is_zero seconds
+is_epoch (Known time) = if time.is_local then is_near_zero time.seconds else is_zero time.seconds
 is_epoch Unknown = false
 
 -- there is one hunk, which has no line on this side

@@ -1,7 +1,7 @@
 -- The names that are formed from a name: below the directory, of backups, of rejects, and of temporaries (GNU patch manual, "Backups", "Reject Names").
-use Rattle.std.specs.Prelude.{◌≡◌, ℕ, suc, List, [], ◌++◌, codes, length, Bool, true, false, ◌||◌, if◌then◌else◌, Option, None, Some, unwrap_or}
+use Rattle.std.specs.Prelude.{◌≡◌, ℕ, suc, List, [], ◌++◌, ◌-◌, codes, length, take, Bool, true, false, is_some, is_none, ◌||◌, if◌then◌else◌, Option, None, Some, unwrap_or}
 use Rattle.outside.specs.Files.{is_temp, temp_of}
-use Rattle.outside.specs.Names.{is_absolute, given_form, placed}
+use Rattle.outside.specs.Names.{is_absolute, given_form, placed, broken_given, last_component}
 use Rattle.patch_options.specs.PlainJob.{PlainOptions}
 use Rattle.file_patch.specs.declared.derived.Target.{Target}
 
@@ -15,14 +15,37 @@ abbrev pub fronted : Option (List ℕ) → List ℕ → List ℕ
 fronted None name = name
 fronted (Some prefix) name = given_form (prefix ++ name)
 
+-- how many bytes of a name stand before its last component
+abbrev pub base_start : List ℕ → ℕ
+base_start name = length name - length (last_component name)
+
+-- the name with a front before its last component
+abbrev pub with_base : List ℕ → List ℕ → List ℕ
+with_base front name = take (base_start name) name ++ front ++ last_component name
+
+-- in the form that an operator gives, where an operator may give it
+abbrev pub lawful_or : List ℕ → List ℕ → List ℕ
+lawful_or text name = if is_none (broken_given text) then given_form text else name
+
+-- the name with the prefix of a backup's last component before it
+abbrev pub based : Option (List ℕ) → List ℕ → List ℕ
+based None name = name
+based (Some front) name = lawful_or (with_base front name) name
+
 -- what stands behind the name of a backup: by default `.orig`, and nothing where only what stands before it is given
-abbrev pub backup_end : Option (List ℕ) → Option (List ℕ) → List ℕ
-backup_end prefix (Some suffix) = suffix
-backup_end None None = codes ".orig"
-backup_end (Some prefix) None = []
+abbrev pub backup_end : Bool → Option (List ℕ) → List ℕ
+backup_end fronted (Some suffix) = suffix
+backup_end fronted None = if fronted then [] else codes ".orig"
+
+abbrev pub is_fronted : PlainOptions → Bool
+is_fronted o = is_some o.prefix || is_some o.base_prefix
+
+-- the name with both prefixes
+abbrev pub backup_front : PlainOptions → List ℕ → List ℕ
+backup_front o name = fronted o.prefix (based o.base_prefix name)
 
 abbrev pub backup_name : PlainOptions → List ℕ → List ℕ
-backup_name o name = fronted o.prefix name ++ backup_end o.prefix o.suffix
+backup_name o name = backup_front o name ++ backup_end (is_fronted o) o.suffix
 
 -- the reject file of the options, or the name followed by `.rej`
 abbrev pub reject_name : PlainOptions → List ℕ → List ℕ

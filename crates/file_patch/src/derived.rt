@@ -4,9 +4,10 @@ ghost use Rattle.std.specs.Option.{ForSome, option_copied};
 ghost use Rattle.outside.specs.Files.{is_temp, temp_of};
 ghost use Rattle.outside.specs.Names.{IsEnding, IsFront};
 ghost use Rattle.patch_options.specs.PlainJob.{plain_options, IsLawful, IsSuffix};
-ghost use Rattle.file_patch.specs.Targets.{below, fronted, backup_end, backup_name, reject_name, shown_from, target_of, HasTemps, is_reserved, IsLasting};
+ghost use Rattle.file_patch.specs.Targets.{below, fronted, with_base, lawful_or, based, backup_end, backup_front, is_fronted, backup_name, reject_name, shown_from, target_of, HasTemps, is_reserved, IsLasting};
 
-use outside::Name;
+use crate::strip::last_component;
+use outside::{Name, NameFault};
 use patch_options::Options;
 use std::alloc::{AllocError, Global};
 
@@ -123,13 +124,74 @@ fn backup_of(alloc: Global, options: &Options, name: &Name) -> Result<WithTemp, 
     ensures temp { IfOk result (λ p. p.temp ≡ temp_of (below options.now.dir (backup_name (plain_options options.now) name.now))) }
     ensures temporary { IfOk result (λ p. is_temp p.temp ≡ true) }
 {
-    let fronted = fronted(alloc, &options.prefix, name)?;
-    let end = backup_end(&options.prefix, &options.suffix);
+    let fronted = named(alloc, options, name)?;
+    let end = backup_end(is_fronted(options), &options.suffix);
     put_below(
         alloc,
         options.dir.as_ref(),
         &fronted.followed_by(alloc, end)?,
     )
+}
+
+/// Whether a prefix is given for backups.
+fn is_fronted(options: &Options) -> bool
+    ensures { result ≡ is_fronted (plain_options options.now) }
+{
+    options.prefix.is_some() || options.base_prefix.is_some()
+}
+
+/// The name with both prefixes of backups.
+fn named(alloc: Global, options: &Options, name: &Name) -> Result<Name, AllocError>
+    requires { IsLawful (plain_options options.now) }
+    ensures { IfOk result (λ made. made ≡ backup_front (plain_options options.now) name.now) }
+{
+    let based = based(alloc, &options.base_prefix, name)?;
+    fronted(alloc, &options.prefix, &based)
+}
+
+/// The name with the prefix before its last component, if there is one.
+fn based(alloc: Global, prefix: &Option<String>, name: &Name) -> Result<Name, AllocError>
+    ensures { IfOk result (λ made. made ≡ based (option_map string_bytes prefix.now) name.now) }
+{
+    match prefix {
+        Some(prefix) => with_base(alloc, prefix.as_str(), name),
+        None => name.copy(alloc),
+    }
+}
+
+/// The name with a front before its last component; the name itself where no operator may give that.
+fn with_base(alloc: Global, front: &str, name: &Name) -> Result<Name, AllocError>
+    ensures { IfOk result (λ made. made ≡ lawful_or (with_base front.now name.now) name.now) }
+{
+    let text = base_text(alloc, front.as_bytes(), name.text().as_bytes())?;
+    match Name::new(alloc, &text) {
+        Ok(made) => Ok(made),
+        Err(NameFault::Memory) => Err(AllocError),
+        Err(NameFault::Refused { rule: _ }) => given_or(alloc, &text, name),
+    }
+}
+
+/// The name that an operator gives by a text, or another one where none may.
+fn given_or(alloc: Global, text: &[u8], name: &Name) -> Result<Name, AllocError>
+    ensures { IfOk result (λ made. made ≡ lawful_or text.now name.now) }
+{
+    match Name::given(alloc, text) {
+        Ok(made) => Ok(made.written()),
+        Err(NameFault::Memory) => Err(AllocError),
+        Err(NameFault::Refused { rule: _ }) => name.copy(alloc),
+    }
+}
+
+/// The text of a name with a front before its last component.
+fn base_text(alloc: Global, front: &[u8], text: &[u8]) -> Result<Vec<u8>, AllocError>
+    ensures { IfOk result (λ made. made.items ≡ with_base front.now text.now) }
+{
+    let last = last_component(text);
+    let start = text.len().saturating_sub(last.len());
+    let mut made = Vec::from_slice(alloc, &text[..start])?;
+    made.extend_from_slice(front)?;
+    made.extend_from_slice(last)?;
+    Ok(made)
 }
 
 /// The name with the prefix before it, if there is one.
@@ -144,14 +206,14 @@ fn fronted(alloc: Global, prefix: &Option<String>, name: &Name) -> Result<Name, 
 }
 
 /// What stands behind the name of a backup.
-fn backup_end<'a>(prefix: &Option<String>, suffix: &'a Option<String>) -> &'a str
+fn backup_end<'a>(is_fronted: bool, suffix: &'a Option<String>) -> &'a str
     requires { ForSome (option_map string_bytes suffix.now) IsSuffix }
-    ensures end { result.now ≡ backup_end (option_map string_bytes prefix.now) (option_map string_bytes suffix.now) }
+    ensures end { result.now ≡ backup_end is_fronted (option_map string_bytes suffix.now) }
     ensures ending { IsEnding result.now }
 {
     match suffix {
         Some(suffix) => suffix.as_str(),
-        None if prefix.is_some() => "",
+        None if is_fronted => "",
         None => ".orig",
     }
 }

@@ -1,5 +1,5 @@
 -- The old lines of a hunk and of a script as numbers from a first to a last.
-use Rattle.std.proofs.Common.{◌≡◌, ℕ, zero, suc, ◌+◌, ◌-◌, ◌<◌, ◌≤◌, ◌^◌, false, cond, List, [], ◌∷◌, length, map, Some, refl, sym, ap, ◌∙◌, arith, max, min}
+use Rattle.std.proofs.Common.{◌≡◌, ℕ, zero, suc, ◌+◌, ◌-◌, ◌<◌, ◌≤◌, ◌^◌, false, cond, List, [], ◌∷◌, length, map, Some, refl, sym, ap, ◌∙◌, arith, min}
 use Rattle.std.specs.Prelude.{slice_get, option_map, ◌==◌}
 use Rattle.std.specs.List.{range_with_len}
 use Rattle.std.proofs.Math.Dec.{eqb-suc-zero}
@@ -21,12 +21,12 @@ use Rattle.filter_choice.specs.OldLines.{from_to, old_numbers, least, greatest, 
 pub one-line : (n : ℕ) → from_to n n ≡ n ∷ []
 one-line n = let e : suc n - n ≡ 1 = omega arith in ap (range_with_len n) e
 
-pub no-lines : (text : List ℕ) (h : Hunk) (count : ℕ) (first last : ℕ) → count ≡ taken_count Forward h.body.items → count ≡ 0 → first ≡ max 1 h.old_start → last ≡ max 1 h.old_start → from_to first last ≡ old_numbers (hunk_of text h)
+pub no-lines : (text : List ℕ) (h : Hunk) (count : ℕ) (first last : ℕ) → count ≡ taken_count Forward h.body.items → count ≡ 0 → first ≡ h.old_start → last ≡ h.old_start → from_to first last ≡ old_numbers (hunk_of text h)
 no-lines text h count first last is none low high =
     let lines : length (old_lines (hunk_of text h).body) ≡ 0 = turned-count text Forward h ∙ sym is ∙ none in
-    rw (low, high, lines) (one-line (max 1 h.old_start))
+    rw (low, high, lines) (one-line h.old_start)
 
-pub some-lines : (start n : ℕ) → 0 < n → from_to start (start + n - 1) ≡ cond (n == 0) (max 1 start ∷ []) (range_with_len start n)
+pub some-lines : (start n : ℕ) → 0 < n → from_to start (start + n - 1) ≡ cond (n == 0) (start ∷ []) (range_with_len start n)
 some-lines start zero some = absurd (omega arith)
 some-lines start (suc n) some =
     let e : suc (start + suc n - 1) - start ≡ suc n = omega arith in
@@ -71,7 +71,7 @@ last-edit text e front [] is = ap (edit_of text) (same_Some e front is)
 last-edit text e front (f ∷ es) is = last-edit text f front es is
 
 pub script-lines : (text : List ℕ) (es : List EdEdit) (end front : EdEdit) (first last : ℕ) → AreLawful (2 ^ 32) (edits_of text es) → slice_get es 0 ≡ Some end → slice_get es (length es - 1) ≡ Some front
-    → first ≡ max 1 (min front.first front.last) → last ≡ max 1 end.last → from_to first last ≡ addressed (edits_of text es)
+    → first ≡ min front.first front.last → last ≡ end.last → from_to first last ≡ addressed (edits_of text es)
 script-lines text [] end front first last lawful at behind low high = absurd cc
 script-lines text (e ∷ es) end front first last lawful at behind low high =
     let n : suc (length es) - 1 ≡ length es = omega arith in

@@ -1,10 +1,10 @@
--- A number of a row is in one of several ranges exactly where a range meets the row.
+-- A number of a row is in one of several items exactly where an item meets the row.
 use Rattle.std.proofs.Common.{◌≡◌, ℕ, suc, ◌-◌, ◌≤◌, Bool, true, false, ◌&&◌, ◌||◌, List, [], ◌∷◌, refl, sym, ap, ◌∙◌, arith}
 use Rattle.std.specs.Prelude.{nat_le, max, min}
 use Rattle.std.specs.List.{list_any}
 use Rattle.std.proofs.lemmas.Bool.{le-leb, leb-true, and_from}
 use Rattle.glob_match.proofs.Deciding.{found-in-range, in-range-found}
-use Rattle.tool_words.specs.PlainJobs.{PlainRanges}
+use Rattle.tool_words.specs.PlainJobs.{PlainItems}
 use Rattle.filter_choice.specs.Selected.{is_in}
 use Rattle.filter_choice.specs.OldLines.{from_to}
 
@@ -50,9 +50,9 @@ module _ (first last : ℕ) where
       in-range-found (is_between r) first (suc last - first) (max first r.0) (omega arith) (omega (arith, le))
       (and_from _ _ (le-leb r.0 (max first r.0) (omega arith)) (le-leb (max first r.0) r.1 (omega (arith, le)))))
 
-  pub one-in : (ranges : PlainRanges) → list_any (is_in ranges) (from_to first last) ≡ list_any meets ranges
+  pub one-in : (items : PlainItems) → list_any (is_in items) (from_to first last) ≡ list_any meets items
   one-in [] = any-none (from_to first last)
-  one-in (r ∷ ranges) =
-      any-or (is_between r) (is_in ranges) (from_to first last)
-      ∙ ap (λ b. b || list_any (is_in ranges) (from_to first last)) (one-range r)
-      ∙ ap (λ b. meets r || b) (one-in ranges)
+  one-in (r ∷ items) =
+      any-or (is_between r) (is_in items) (from_to first last)
+      ∙ ap (λ b. b || list_any (is_in items) (from_to first last)) (one-range r)
+      ∙ ap (λ b. meets r || b) (one-in items)

@@ -1,4 +1,4 @@
--- The old lines of hunks, by which they are kept. A hunk without old lines counts as one at the line of its start, or at line 1.
+-- The old lines of hunks, by which they are kept. A hunk without old lines counts as one at the line of its start, which is 0 in front of all lines.
 use Rattle.std.specs.Prelude.{ℕ, suc, ◌-◌, ◌<◌, ◌^◌, ◌==◌, max, min, All, List, [], ◌∷◌, length, map, if◌then◌else◌}
 use Rattle.std.specs.List.{range_with_len}
 use Rattle.hunk_core.specs.PlainHunk.{PlainHunk, old_lines}
@@ -14,7 +14,7 @@ from_to first last = range_with_len first (suc last - first)
 
 -- the numbers of the lines that a hunk keeps or drops
 abbrev pub old_numbers : PlainHunk → List ℕ
-old_numbers h = if length (old_lines h.body) == 0 then max 1 h.old_start ∷ [] else range_with_len h.old_start (length (old_lines h.body))
+old_numbers h = if length (old_lines h.body) == 0 then h.old_start ∷ [] else range_with_len h.old_start (length (old_lines h.body))
 
 -- the least address of the commands
 abbrev pub least : List PlainEdit → ℕ
@@ -27,9 +27,9 @@ abbrev pub greatest : List PlainEdit → ℕ
 greatest [] = 0
 greatest (e ∷ es) = max e.last (greatest es)
 
--- the lines between these; line 0, behind which a command may insert, counts as 1
+-- the lines between these
 abbrev pub addressed : List PlainEdit → List ℕ
-addressed es = from_to (max 1 (least es)) (max 1 (greatest es))
+addressed es = from_to (least es) (greatest es)
 
 -- those of each hunk of a change; an ed script is one hunk
 abbrev pub old_of_each : PlainChange → List (List ℕ)

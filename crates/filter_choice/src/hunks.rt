@@ -1,6 +1,6 @@
 //! The old lines of a hunk, and whether it is kept.
 
-ghost use Rattle.std.specs.Prelude.{◌≡◌, ◌<◌, ◌^◌, ℕ, List, Some, length, max, false, slice_get, slice_index_or};
+ghost use Rattle.std.specs.Prelude.{◌≡◌, ◌<◌, ◌^◌, ℕ, List, Some, length, false, slice_get, slice_index_or};
 ghost use Rattle.hunk_core.specs.PlainHunk.{hunk_of};
 ghost use Rattle.ed_form.specs.PlainEdit.{IsLawfulScript, edits_of};
 ghost use Rattle.file_patch.specs.PlainPatch.{IsLawfulChange, change_of, row_count};
@@ -14,20 +14,13 @@ use file_patch::Change;
 use hunk_core::{Hunk, Side};
 use tool_words::FilterJob;
 
-/// A line's number, counted from 1; line 0 counts as the first.
-pub fn at_least_one(number: u32) -> u64
-    ensures { result ≡ max 1 number }
-{
-    u64::from(u32::max(1, number))
-}
-
 fn old_lines(hunk: &Hunk) -> Lines
     requires { length hunk.now.body.items < 2 ^ 32 }
     ensures { (text : List ℕ) → numbers_of result ≡ old_numbers (hunk_of text hunk.now) }
 {
     let count = u64::from(hunk.count(Side::Forward));
     if count == 0 {
-        let line = at_least_one(hunk.old_start);
+        let line = u64::from(hunk.old_start);
         return Lines {
             first: line,
             last: line,
@@ -48,8 +41,8 @@ pub fn addressed(script: &EdScript) -> Lines
     let end = &script.edits[0];
     let front = &script.edits[script.edits.len() - 1];
     Lines {
-        first: at_least_one(u32::min(front.first, front.last)),
-        last: at_least_one(end.last),
+        first: u64::from(u32::min(front.first, front.last)),
+        last: u64::from(end.last),
     }
 }
 

@@ -10,7 +10,7 @@ mod outline;
 mod set;
 
 pub use digest::{Digest, read_digest};
-pub use hunks::{addressed, at_least_one};
+pub use hunks::addressed;
 pub use kept::keeps;
 pub use numbers::{Lines, is_meant, is_one_meant, is_selected};
 pub use outline::{Outline, read_outline};

@@ -3,7 +3,7 @@
 ghost use Rattle.std.specs.Prelude.{◌≡◌, map, max, min, nat_le};
 ghost use Rattle.std.specs.List.{list_any};
 ghost use Rattle.tool_words.specs.PlainJobs.{plain_ranges, plain_select};
-ghost use Rattle.filter_choice.specs.Selected.{is_in, is_meant, is_one_meant, is_selected, matches_any};
+ghost use Rattle.filter_choice.specs.Selected.{by_others, is_in, is_meant, is_one_meant, is_selected, matches_any};
 ghost use Rattle.filter_choice.specs.OldLines.{numbers_of};
 
 use file_patch::shortened;
@@ -34,10 +34,17 @@ pub fn is_selected(select: &Select, name: &[u8]) -> bool
     !select.only_included || matches_any(&select.include, name)
 }
 
-fn is_in(ranges: &Ranges, number: u64) -> bool
-    ensures { result ≡ is_in ranges.now.items.items number }
+fn is_in(items: &[(u32, u32)], number: u64) -> bool
+    ensures { result ≡ is_in items.now number }
 {
-    ranges.items.iter().any(|range| u64::from(range.0) <= number && number <= u64::from(range.1))
+    items.iter().any(|range| u64::from(range.0) <= number && number <= u64::from(range.1))
+}
+
+/// What a find among the items says of numbers, of which those of the items are meant, or all others.
+fn by_others(others: bool, is: bool) -> bool
+    ensures { result ≡ by_others others is }
+{
+    if others { !is } else { is }
 }
 
 /// Whether a number is meant.
@@ -45,7 +52,7 @@ pub fn is_meant(ranges: &Option<Ranges>, number: u64) -> bool
     ensures { result ≡ is_meant (plain_ranges ranges.now) number }
 {
     match ranges {
-        Some(ranges) => is_in(ranges, number),
+        Some(ranges) => by_others(ranges.others, is_in(&ranges.items, number)),
         None => true,
     }
 }
@@ -56,18 +63,18 @@ fn meets(lines: Lines, range: (u32, u32)) -> bool
     u64::max(lines.first, u64::from(range.0)) <= u64::min(lines.last, u64::from(range.1))
 }
 
-fn is_one_in(ranges: &Ranges, lines: Lines) -> bool
-    ensures { result ≡ list_any (is_in ranges.now.items.items) (numbers_of lines) }
+fn is_one_in(items: &[(u32, u32)], lines: Lines) -> bool
+    ensures { result ≡ list_any (is_in items.now) (numbers_of lines) }
 {
-    ranges.items.iter().any(|range| meets(lines, *range))
+    items.iter().any(|range| meets(lines, *range))
 }
 
-/// Whether one of these numbers is meant.
+/// Whether one of these numbers is meant or, where all but some numbers are, none of these.
 pub fn is_one_meant(ranges: &Option<Ranges>, lines: Lines) -> bool
     ensures { result ≡ is_one_meant (plain_ranges ranges.now) (numbers_of lines) }
 {
     match ranges {
-        Some(ranges) => is_one_in(ranges, lines),
+        Some(ranges) => by_others(ranges.others, is_one_in(&ranges.items, lines)),
         None => true,
     }
 }

@@ -1,5 +1,5 @@
 -- What is written of a set is told by its text.
-use Rattle.std.proofs.Common.{◌≡◌, ℕ, ◌+◌, Bool, true, false, ◌||◌, cond, List, [], ◌∷◌, ◌++◌, length, map, refl, sym, ap, subst, ◌∙◌}
+use Rattle.std.proofs.Common.{◌≡◌, ℕ, ◌+◌, Bool, true, false, ◌||◌, cond, List, [], ◌∷◌, ◌++◌, length, map, None, refl, sym, ap, subst, ◌∙◌}
 use Rattle.std.specs.Prelude.{filter, if◌then◌else◌}
 use Rattle.std.specs.List.{flat_map, list_any, range_with_len, zip}
 use Rattle.std.proofs.lemmas.List.Concat.{flat_map-cons}
@@ -24,7 +24,7 @@ use Rattle.patch_filters.specs.Grepped.{found_text, grepped, hits_of, is_found}
 use Rattle.filter_choice.specs.Kept.{is_kept, is_taken, kept}
 use Rattle.line_list.specs.Completed.{completed}
 use Rattle.patch_filters.specs.HunkLines.{first_line, hunk_lines, lines_from}
-use Rattle.patch_filters.specs.Listed.{asks_hunks, is_listed, lines_if_selected, list_lines, listed, listed_whole, name_line}
+use Rattle.patch_filters.specs.Listed.{asks_hunks, is_listed, lines_if_selected, list_line, list_lines, listed, listed_whole, name_line}
 use Rattle.filter_choice.specs.OldLines.{old_of_each}
 use Rattle.filter_choice.specs.Selected.{numbered}
 use Rattle.patch_filters.proofs.Digesting.{filtered-digest-is, olds-same}
@@ -58,7 +58,7 @@ listed-by j text v unasked read =
     ap (listed j) (sym (ok_is _ _ a.2))
     ∙ outlines-listed j (empty-unasked j.shown.hunks j.shown.empty_absent unasked) a.0
     ∙ ap (listed j) (sym (ap read_patches (ap (patches_of ways) (sym read.text) ∙ a.1)))
-    ∙ sym (ap (λ b. if b then flat_map (spot_listed j (completed text)) (filter (λ s. is_listed j s.1) (spots_in j.select.skip_binary text)) else listed j (patches_in j.select.skip_binary text)) unasked)
+    ∙ sym (ap (λ b. if b then flat_map (spot_listed j (completed text)) (filter (λ n. is_listed j n.1.1) (numbered (spots_in j.select.skip_binary text))) else listed j (patches_in j.select.skip_binary text)) unasked)
 
 -- ---- lists side by side
 
@@ -97,11 +97,11 @@ module _ (text : List ℕ) (start before : ℕ) (p : FilePatch) (at : IsPlaced t
   lines-same : (label : List ℕ) → hunk_lines label text p ≡ spot_lines label text (spot text p)
   lines-same label = ap (lines_from label (first_line p.header.form p.header.opening) 1) (cut-bytes text p.header p.hunk_spans.items p.span.end at.cut)
 
-  list-same : (j : PlainListJob) → list_lines j text p ≡ spot_listed j text (spot text p)
-  list-same j = ap (λ (ls : List (List ℕ)). name_line j.shown (patch_of text p) ++ text_if (j.shown.hunks, flat_map (λ line. line) ls)) (lines-same j.shown.hunk_label)
+  list-same : (j : PlainListJob) (number : ℕ) → list_lines j text (number, p) ≡ spot_listed j text (number, spot text p)
+  list-same j number = ap (λ (ls : List (List ℕ)). list_line j (number, patch_of text p) ++ text_if (j.shown.hunks, flat_map (λ line. line) ls)) (lines-same j.shown.hunk_label)
 
   found-same : (hit : List ℕ → Bool) (out : GrepOut) (j : PlainGrepJob) → found_text hit out j text p ≡ spot_found hit out j text (spot text p)
-  found-same hit Names j = ap (λ (ls : List (List ℕ)). name_line j.shown (patch_of text p) ++ text_if (j.shown.hunks, chosen (hits_of j.searched hit (change_of text p.change)) ls)) (lines-same j.shown.hunk_label)
+  found-same hit Names j = ap (λ (ls : List (List ℕ)). name_line j.shown None (patch_of text p) ++ text_if (j.shown.hunks, chosen (hits_of j.searched hit (change_of text p.change)) ls)) (lines-same j.shown.hunk_label)
   found-same hit Hunks j = ap (λ (ts : List (List ℕ)). region text p ++ chosen (hits_of j.searched hit (change_of text p.change)) ts) (cut-bytes text p.header p.hunk_spans.items p.span.end at.cut)
   found-same hit Files j = refl
 
@@ -111,12 +111,12 @@ pub whole-by : (j : PlainListJob) (text : List ℕ) (v : SetView) → asks_hunks
 unfolding listed_in
 whole-by j text v asked read =
     listed-whole-is j v
-    ∙ all-same v.text (lines_if_selected j v.text) (λ s. cond (is_listed j s.1) (spot_listed j v.text s) [])
-    (λ start before p at. ap (λ (t : List ℕ). cond (is_listed j (patch_of v.text p)) t []) (list-same v.text start before p at j)) 0 0 v.patches read.spans
-    ∙ sym (flat-if (λ (s : Spot). is_listed j s.1) (spot_listed j v.text) (map (spot v.text) v.patches))
-    ∙ ap (λ (ss : List Spot). flat_map (spot_listed j v.text) (filter (λ s. is_listed j s.1) ss)) (sym (spots-by j.select.skip_binary text v read))
-    ∙ ap (λ (t : List ℕ). flat_map (spot_listed j t) (filter (λ s. is_listed j s.1) (spots_in j.select.skip_binary text))) read.text
-    ∙ sym (ap (λ b. if b then flat_map (spot_listed j (completed text)) (filter (λ s. is_listed j s.1) (spots_in j.select.skip_binary text)) else listed j (patches_in j.select.skip_binary text)) asked)
+    ∙ numbered-same v.text (lines_if_selected j v.text) (λ n. cond (is_listed j n.1.1) (spot_listed j v.text n) [])
+    (λ n start before p at. ap (λ (t : List ℕ). cond (is_listed j (patch_of v.text p)) t []) (list-same v.text start before p at j n)) 1 0 0 v.patches read.spans
+    ∙ sym (flat-if (λ (n : ℕ × Spot). is_listed j n.1.1) (spot_listed j v.text) (numbered (map (spot v.text) v.patches)))
+    ∙ ap (λ (ss : List Spot). flat_map (spot_listed j v.text) (filter (λ n. is_listed j n.1.1) (numbered ss))) (sym (spots-by j.select.skip_binary text v read))
+    ∙ ap (λ (t : List ℕ). flat_map (spot_listed j t) (filter (λ n. is_listed j n.1.1) (numbered (spots_in j.select.skip_binary text)))) read.text
+    ∙ sym (ap (λ b. if b then flat_map (spot_listed j (completed text)) (filter (λ n. is_listed j n.1.1) (numbered (spots_in j.select.skip_binary text))) else listed j (patches_in j.select.skip_binary text)) asked)
 
 pub filtered-by : (j : PlainFilterJob) (text : List ℕ) (v : SetView) → IsRead (defaults j.select.skip_binary) text v → filtered j v ≡ filtered_in j text
 unfolding filtered_in

@@ -1,5 +1,5 @@
 -- What `lsdiff`, `filterdiff` and `grepdiff` write of a text: told by the text alone (manual pages of patchutils).
-use Rattle.std.specs.Prelude.{ℕ, Bool, filter, List, [], ◌++◌, if◌then◌else◌}
+use Rattle.std.specs.Prelude.{ℕ, Bool, filter, List, [], ◌++◌, None, if◌then◌else◌}
 use Rattle.std.specs.List.{flat_map, list_any}
 use Rattle.line_list.specs.Completed.{completed}
 use Rattle.filter_choice.specs.Kept.{is_taken, kept}
@@ -7,7 +7,7 @@ use Rattle.filter_choice.specs.Selected.{numbered}
 use Rattle.patch_filters.specs.Filtered.{asks_no_hunk, chosen, text_if}
 use Rattle.patch_filters.specs.Grepped.{hits_of, is_found}
 use Rattle.patch_filters.specs.HunkLines.{first_line, lines_from}
-use Rattle.patch_filters.specs.Listed.{asks_hunks, is_listed, listed, name_line}
+use Rattle.patch_filters.specs.Listed.{asks_hunks, is_listed, list_line, listed, name_line}
 use Rattle.tool_words.specs.PlainJobs.{PlainFilterJob, PlainGrepJob, PlainListJob}
 use Rattle.tool_words.specs.declared.jobs.GrepOut.{GrepOut}
 use Rattle.tool_words.specs.declared.jobs.GrepOut.TheVariants.{Names, Hunks, Files}
@@ -19,13 +19,13 @@ use Rattle.whole_filters.specs.Texts.{Spot, spots_in, patches_in, front_of, piec
 abbrev pub spot_lines : List ℕ → List ℕ → Spot → List (List ℕ)
 spot_lines label text s = lines_from label (first_line s.0.header.form s.0.header.opening) 1 (pieces_of text s.0)
 
--- the line of a file patch, and those of its hunks where they are asked for
-abbrev pub spot_listed : PlainListJob → List ℕ → Spot → List ℕ
-spot_listed j text s = name_line j.shown s.1 ++ text_if (j.shown.hunks, flat_map (λ line. line) (spot_lines j.shown.hunk_label text s))
+-- the line of a file patch with this number, and those of its hunks where they are asked for
+abbrev pub spot_listed : PlainListJob → List ℕ → ℕ × Spot → List ℕ
+spot_listed j text n = list_line j (n.0, n.1.1) ++ text_if (j.shown.hunks, flat_map (λ line. line) (spot_lines j.shown.hunk_label text n.1))
 
 -- what is written of the file patches of a text that are selected; without hunks their lines are enough
 unfoldable pub listed_in : PlainListJob → List ℕ → List ℕ
-listed_in j text = if asks_hunks j.shown then flat_map (spot_listed j (completed text)) (filter (λ s. is_listed j s.1) (spots_in j.select.skip_binary text))
+listed_in j text = if asks_hunks j.shown then flat_map (spot_listed j (completed text)) (filter (λ n. is_listed j n.1.1) (numbered (spots_in j.select.skip_binary text)))
     else listed j (patches_in j.select.skip_binary text)
 
 -- ---- `filterdiff`
@@ -54,7 +54,7 @@ filtered_in j text = flat_map (λ n. spot_written j (completed text) n.1) (filte
 -- of a file patch that is found its line and, where that is asked for, those of the hunks with a hit; or the lines in front of its hunks and
 -- just these hunks; or all of it
 abbrev pub spot_found : (List ℕ → Bool) → GrepOut → PlainGrepJob → List ℕ → Spot → List ℕ
-spot_found hit Names j text s = name_line j.shown s.1 ++ text_if (j.shown.hunks, chosen (hits_of j.searched hit s.1.change) (spot_lines j.shown.hunk_label text s))
+spot_found hit Names j text s = name_line j.shown None s.1 ++ text_if (j.shown.hunks, chosen (hits_of j.searched hit s.1.change) (spot_lines j.shown.hunk_label text s))
 spot_found hit Hunks j text s = front_of text s.0 ++ chosen (hits_of j.searched hit s.1.change) (pieces_of text s.0)
 spot_found hit Files j text s = all_of text s.0
 

@@ -36,7 +36,7 @@ flipped-is v = refl
 
 -- ---- numbers of file patches, from the last one
 
-pub patch-fits : (i n : ℕ) → i < n → n < 2 ^ 32 → Fits w64 (i * 288)
+pub patch-fits : (i n : ℕ) → i < n → n < 2 ^ 32 → Fits w64 (i * 304)
 patch-fits i n lt few = omega arith
 
 pub number-fits : (i n : ℕ) → i < n → n < 2 ^ 32 → Fits w32 i

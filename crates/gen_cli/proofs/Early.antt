@@ -64,7 +64,7 @@ module _ (job : Result PlainGenJob WordFault) (t : TreeView) (a : ScratchView) (
 -- the options of `patchgen` take each file patch for the file that its header names
 takes : (j : PlainGenJob) → TakesNames (options_for j)
 unfolding uses value_of
-takes j = record { only = refl; strip = refl; file = refl; dir = refl; output = refl; reject = refl; prefix = refl; suffix = refl; reverse = refl }
+takes j = record { only = refl; strip = refl; file = refl; dir = refl; output = refl; reject = refl; prefix = refl; base_prefix = refl; suffix = refl; reverse = refl }
 
 pub patch_free : (j : PlainGenJob) → IsSize j → refusal (options_for j) (patch_text j) ≡ None
 patch_free j size = made-free (options_for j) j.seed j.files j.lines (takes j) size.some_files size.few_files size.some_lines size.few_lines size.few

@@ -4,7 +4,7 @@ ghost use Rattle.patch_options.specs.PlainJob.{plain_options, IsLawful};
 ghost use Rattle.tool_words.specs.PlainJobs.{plain_gen_job, IsSize};
 ghost use Rattle.gen_cli.specs.Jobs.{options_for};
 
-use patch_options::{Input, Options};
+use patch_options::{BackupNumbers, FileTimes, Input, Options, ReadOnlyFiles};
 use tool_words::GenJob;
 
 pub fn options_for(job: GenJob) -> Options
@@ -26,6 +26,8 @@ pub fn options_for(job: GenJob) -> Options
         mismatch_backup: true,
         suffix: None,
         prefix: None,
+        base_prefix: None,
+        numbers: BackupNumbers::Never,
         dir: None,
         file: None,
         input: Input::Standard,
@@ -38,6 +40,8 @@ pub fn options_for(job: GenJob) -> Options
         keep_returns: false,
         skip_binary: false,
         dry_run: false,
+        read_only: ReadOnlyFiles::Told,
+        times: FileTimes::Written,
         follow_links: false,
         silent: true,
         verbose: false,

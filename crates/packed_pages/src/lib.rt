@@ -174,7 +174,7 @@ impl<C: Scratch> Plan for PackedB<C> {
 
     ghost scratch_after = { λ size file before. option_map (λ _. packs size (lines file)) before };
 
-    ghost sized = { λ p. p.held.layout.sized };
+    ghost sized = { λ p. p.held.layout.sized.0 };
 
     fn take_file<T: Tree>(&mut self, tree: &mut T, name: &Name) -> Result<(), OpenFault> {
         self.take_empty();

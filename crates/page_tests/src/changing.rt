@@ -3,7 +3,7 @@ ghost use Rattle.std.specs.Prelude.{◌≡◌, ◌≤◌, length, IsErr};
 ghost use Rattle.outside.specs.TreeView.{IsCall};
 ghost use Rattle.outside.specs.Silent.{silent_tree};
 
-use outside::{Failed, Name, Tree};
+use outside::{Failed, Name, TimeChange, Tree};
 
 /// Whatever name is asked for, a file that gives its first bytes until it is read from its start a second time, and then the others,
 /// as many. It can only be read, and tells nothing.
@@ -70,6 +70,14 @@ impl Tree for ChangingFile {
         Ok(false)
     }
 
+    fn is_read_only(&mut self, _name: &Name) -> Result<bool, Failed> {
+        Ok(false)
+    }
+
+    fn last_number(&mut self, _name: &Name) -> Result<u64, Failed> {
+        Ok(0)
+    }
+
     fn has_dir(&mut self, _name: &Name, _parts: u64) -> Result<bool, Failed> {
         Ok(false)
     }
@@ -87,6 +95,10 @@ impl Tree for ChangingFile {
     }
 
     fn set_link(&mut self, _temp: &Name) -> Result<(), Failed> {
+        self.fails()
+    }
+
+    fn set_time(&mut self, _temp: &Name, _to: &Name, _change: TimeChange) -> Result<(), Failed> {
         self.fails()
     }
 

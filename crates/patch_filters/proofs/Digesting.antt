@@ -1,5 +1,5 @@
 -- File patches of a digest, and which of their hunks are kept.
-use Rattle.std.proofs.Common.{◌≡◌, ℕ, zero, suc, ◌<◌, List, [], ◌∷◌, length, map, max, Some, refl, sym, ap, subst, ◌∙◌, ◌+◌, ◌-◌}
+use Rattle.std.proofs.Common.{◌≡◌, ℕ, zero, suc, ◌<◌, List, [], ◌∷◌, length, map, Some, refl, sym, ap, subst, ◌∙◌, ◌+◌, ◌-◌}
 use Rattle.std.specs.Prelude.{slice_get}
 use Rattle.std.specs.List.{flat_map, zip}
 use Rattle.std.proofs.lemmas.List.{length-map}
@@ -22,10 +22,10 @@ use Rattle.filter_choice.proofs.Rows.{flags-count}
 
 -- ---- the old lines of a hunk
 
-pub no-range : (old : OldRange) (count first last : ℕ) → count ≡ old.count → count ≡ 0 → first ≡ max 1 old.start → last ≡ max 1 old.start → from_to first last ≡ range_numbers old
+pub no-range : (old : OldRange) (count first last : ℕ) → count ≡ old.count → count ≡ 0 → first ≡ old.start → last ≡ old.start → from_to first last ≡ range_numbers old
 no-range old count first last is none low high =
     let zero-count : old.count ≡ 0 = sym is ∙ none in
-    rw (low, high, zero-count) (one-line (max 1 old.start))
+    rw (low, high, zero-count) (one-line old.start)
 
 pub some-range : (old : OldRange) (count first last : ℕ) → count ≡ old.count → 0 < count → first ≡ old.start → last ≡ first + count - 1 → from_to first last ≡ range_numbers old
 some-range old count first last is some low end = rw (end, low, is) (some-lines old.start old.count (subst (λ n. 0 < n) is some))

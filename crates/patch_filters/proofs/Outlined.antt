@@ -1,7 +1,7 @@
 -- File patches without their hunks are listed as they are with them.
-use Rattle.std.proofs.Common.{◌≡◌, ℕ, Bool, true, false, cond, List, [], ◌∷◌, ◌++◌, map, refl, ap, ◌∙◌}
+use Rattle.std.proofs.Common.{◌≡◌, ℕ, ◌+◌, Bool, true, false, cond, List, [], ◌∷◌, ◌++◌, length, map, refl, ap, ◌∙◌}
 use Rattle.std.specs.Prelude.{◌&&◌, ◌||◌, codes, filter, if◌then◌else◌}
-use Rattle.std.specs.List.{flat_map}
+use Rattle.std.specs.List.{flat_map, range_with_len, zip}
 use Rattle.hunk_core.specs.declared.Side.{Side}
 use Rattle.hunk_core.specs.declared.Side.TheVariants.{Forward, Reversed}
 use Rattle.file_patch.specs.PlainPatch.{PlainChange, PlainPatch, hunks, script}
@@ -11,7 +11,7 @@ use Rattle.patch_text.specs.Outlines.{only_hunk, outline}
 use Rattle.patch_set.specs.PlainName.{plain_name}
 use Rattle.tool_words.specs.PlainJobs.{PlainListJob}
 use Rattle.filter_choice.specs.Shown.{shown_name}
-use Rattle.patch_filters.specs.Listed.{is_gone, is_listed, listed, name_line, number_text, sign}
+use Rattle.patch_filters.specs.Listed.{file_number, file_text, is_gone, is_listed, list_line, listed, number_text, sign}
 
 same-empty : (side : Side) (c : PlainChange) → is_empty_on side (only_hunk c) ≡ is_empty_on side c
 same-empty side (hunks []) = refl
@@ -32,20 +32,28 @@ same-sign false p none =
     ∙ ap (λ b. if is_moved p.header.action then codes "! " else if is_gone false Forward p then codes "+ " else if b then codes "- " else codes "! ") (same-gone Reversed p)
 
 module _ (j : PlainListJob) (none : j.shown.empty_absent ≡ false) where
-  same-line : (p : PlainPatch) → name_line j.shown (outline p) ≡ name_line j.shown p
-  same-line p =
+  same-line : (number : ℕ) (p : PlainPatch) → list_line j (number, outline p) ≡ list_line j (number, p)
+  same-line number p =
       let s = j.shown in
-      ap (λ (t : List ℕ). s.label ++ ((number_text s.numbers p.header.names_line ++ (if s.status then t else [])) ++ (shown_name s.prefix s.strip (plain_name p.header) ++ codes "\n"))) (same-sign s.empty_absent p none)
+      ap (λ (t : List ℕ). s.label ++ (((number_text s.numbers p.header.names_line ++ file_text (file_number j number)) ++ (if s.status then t else [])) ++ (shown_name s.prefix s.strip (plain_name p.header) ++ codes "\n"))) (same-sign s.empty_absent p none)
 
-  same-lines : (ps : List PlainPatch) → flat_map (name_line j.shown) (filter (is_listed j) (map outline ps)) ≡ flat_map (name_line j.shown) (filter (is_listed j) ps)
-  same-lines [] = refl
-  same-lines (p ∷ ps) = by (is_listed j p) (same-lines ps)
+  -- the selected ones of some file patches, of which the first has this number, and their lines
+  abbrev listed_from : ℕ → List PlainPatch → List (ℕ × PlainPatch)
+  listed_from number ps = filter (λ n. is_listed j n.1) (zip (range_with_len number (length ps)) ps)
+
+  abbrev lines_from : ℕ → List PlainPatch → List ℕ
+  lines_from number ps = flat_map (list_line j) (listed_from number ps)
+
+  same-lines : (number : ℕ) (ps : List PlainPatch) → lines_from number (map outline ps) ≡ lines_from number ps
+  same-lines number [] = refl
+  same-lines number (p ∷ ps) = by (is_listed j p) (same-lines (number + 1) ps)
     where
-      by : (b : Bool) → flat_map (name_line j.shown) (filter (is_listed j) (map outline ps)) ≡ flat_map (name_line j.shown) (filter (is_listed j) ps)
-          → flat_map (name_line j.shown) (cond b (outline p ∷ filter (is_listed j) (map outline ps)) (filter (is_listed j) (map outline ps))) ≡ flat_map (name_line j.shown) (cond b (p ∷ filter (is_listed j) ps) (filter (is_listed j) ps))
-      by true later = ap (λ (line : List ℕ). line ++ flat_map (name_line j.shown) (filter (is_listed j) (map outline ps))) (same-line p) ∙ ap (λ (lines : List ℕ). name_line j.shown p ++ lines) later
+      by : (b : Bool) → lines_from (number + 1) (map outline ps) ≡ lines_from (number + 1) ps
+          → flat_map (list_line j) (cond b ((number, outline p) ∷ listed_from (number + 1) (map outline ps)) (listed_from (number + 1) (map outline ps)))
+          ≡ flat_map (list_line j) (cond b ((number, p) ∷ listed_from (number + 1) ps) (listed_from (number + 1) ps))
+      by true later = ap (λ (line : List ℕ). line ++ lines_from (number + 1) (map outline ps)) (same-line number p) ∙ ap (λ (lines : List ℕ). list_line j (number, p) ++ lines) later
       by false later = later
 
   pub outlines-listed : (ps : List PlainPatch) → listed j (map outline ps) ≡ listed j ps
   unfolding listed
-  outlines-listed ps = same-lines ps
+  outlines-listed ps = same-lines 1 ps

@@ -1,5 +1,5 @@
 -- What is written of a digest where file patches and hunks are left out.
-use Rattle.std.specs.Prelude.{ℕ, Bool, ◌==◌, max, List, [], ◌∷◌, ◌++◌, map, if◌then◌else◌}
+use Rattle.std.specs.Prelude.{ℕ, Bool, ◌==◌, List, [], ◌∷◌, ◌++◌, map, if◌then◌else◌}
 use Rattle.std.specs.List.{flat_map, list_any, range_with_len, zip}
 use Rattle.unified_form.specs.declared.skim.OldRange.{OldRange}
 use Rattle.file_patch.specs.declared.FilePatch.{FilePatch}
@@ -13,7 +13,7 @@ use Rattle.patch_filters.specs.Filtered.{region, pieces, chosen, written_bare, i
 
 -- the numbers of the old lines of a hunk
 abbrev pub range_numbers : OldRange → List ℕ
-range_numbers old = if old.count == 0 then max 1 old.start ∷ [] else range_with_len old.start old.count
+range_numbers old = if old.count == 0 then old.start ∷ [] else range_with_len old.start old.count
 
 -- those of each hunk; an ed script is one hunk, and tells them itself
 abbrev pub olds_by : PlainChange → List OldRange → List (List ℕ)

@@ -50,7 +50,7 @@ is_found hit j p = is_selected j.select (plain_name p.header) && list_any (λ is
 -- of a file patch that is found its line and, where that is asked for, those of the hunks with a hit; or its region and just these hunks;
 -- or all of it
 abbrev pub found_text : (List ℕ → Bool) → GrepOut → PlainGrepJob → List ℕ → FilePatch → List ℕ
-found_text hit Names j text p = name_line j.shown (patch_of text p) ++ text_if (j.shown.hunks, chosen (hits_of j.searched hit (change_of text p.change)) (hunk_lines j.shown.hunk_label text p))
+found_text hit Names j text p = name_line j.shown None (patch_of text p) ++ text_if (j.shown.hunks, chosen (hits_of j.searched hit (change_of text p.change)) (hunk_lines j.shown.hunk_label text p))
 found_text hit Hunks j text p = region text p ++ chosen (hits_of j.searched hit (change_of text p.change)) (pieces text p)
 found_text hit Files j text p = bytes_at text p.span
 

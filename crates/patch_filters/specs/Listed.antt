@@ -1,5 +1,5 @@
 -- What a list of file patches says (manual page of `lsdiff`).
-use Rattle.std.specs.Prelude.{ℕ, Bool, false, not, ◌&&◌, ◌||◌, filter, List, [], ◌∷◌, ◌++◌, codes, if◌then◌else◌}
+use Rattle.std.specs.Prelude.{ℕ, nat_lt, Bool, false, not, ◌&&◌, ◌||◌, filter, List, [], ◌∷◌, ◌++◌, codes, Option, None, Some, if◌then◌else◌}
 use Rattle.std.specs.List.{flat_map, list_any}
 use Rattle.num_text.specs.Numbers.{decimal}
 use Rattle.hunk_core.specs.PlainHunk.{PlainHunk}
@@ -13,7 +13,7 @@ use Rattle.file_patch.specs.Absent.{is_absent}
 use Rattle.patch_set.specs.PlainName.{plain_name}
 use Rattle.patch_set.specs.SetView.{SetView}
 use Rattle.tool_words.specs.PlainJobs.{PlainShown, PlainListJob}
-use Rattle.filter_choice.specs.Selected.{is_selected}
+use Rattle.filter_choice.specs.Selected.{is_selected, numbered}
 use Rattle.filter_choice.specs.Shown.{shown_name}
 use Rattle.patch_filters.specs.Filtered.{text_if}
 use Rattle.patch_filters.specs.HunkLines.{hunk_lines}
@@ -44,29 +44,50 @@ number_text is_asked number = if is_asked then decimal number ++ codes "\t" else
 abbrev pub sign_text : PlainShown → PlainPatch → List ℕ
 sign_text s p = if s.status then sign s.empty_absent p else []
 
--- what stands in front of a name: the number of the line of the names, and the sign
-abbrev pub front : PlainShown → PlainPatch → List ℕ
-front s p = number_text s.numbers p.header.names_line ++ sign_text s p
+-- blanks behind a number that has less than three digits
+abbrev pub blanks : ℕ → List ℕ
+blanks number = if nat_lt number 10 then codes "  " else if nat_lt number 100 then codes " " else []
+
+-- the number of a file patch, and a tab
+abbrev pub file_line : ℕ → List ℕ
+file_line number = ((codes "File #" ++ decimal number) ++ blanks number) ++ codes "\t"
+
+-- the same where there is a number to be shown
+abbrev pub file_text : Option ℕ → List ℕ
+file_text None = []
+file_text (Some number) = file_line number
+
+-- what stands in front of a name: the number of the line of the names, that of the file patch, and the sign
+abbrev pub front : PlainShown → Option ℕ → PlainPatch → List ℕ
+front s number p = (number_text s.numbers p.header.names_line ++ file_text number) ++ sign_text s p
 
 -- the line of a file patch, with its name as it is shown
-abbrev pub own_line : PlainShown → PlainPatch → List ℕ
-own_line s p = front s p ++ (shown_name s.prefix s.strip (plain_name p.header) ++ codes "\n")
+abbrev pub own_line : PlainShown → Option ℕ → PlainPatch → List ℕ
+own_line s number p = front s number p ++ (shown_name s.prefix s.strip (plain_name p.header) ++ codes "\n")
 
 -- the same behind the name of its text, where that is shown
-abbrev pub name_line : PlainShown → PlainPatch → List ℕ
-name_line s p = s.label ++ own_line s p
+abbrev pub name_line : PlainShown → Option ℕ → PlainPatch → List ℕ
+name_line s number p = s.label ++ own_line s number p
 
 -- the file patch is selected
 abbrev pub is_listed : PlainListJob → PlainPatch → Bool
 is_listed j p = is_selected j.select (plain_name p.header)
 
+-- the number of a file patch, where it is to be shown
+abbrev pub file_number : PlainListJob → ℕ → Option ℕ
+file_number j number = if j.number_files then Some number else None
+
+-- the line of a file patch with its number, which counts all file patches of the text
+abbrev pub list_line : PlainListJob → ℕ × PlainPatch → List ℕ
+list_line j n = name_line j.shown (file_number j n.0) n.1
+
 -- a line for each selected file patch
 unfoldable pub listed : PlainListJob → List PlainPatch → List ℕ
-listed j ps = flat_map (name_line j.shown) (filter (is_listed j) ps)
+listed j ps = flat_map (list_line j) (filter (λ n. is_listed j n.1) (numbered ps))
 
 -- the same of one file patch
-abbrev pub line_if_selected : PlainListJob → PlainPatch → List ℕ
-line_if_selected j p = if is_listed j p then name_line j.shown p else []
+abbrev pub line_if_selected : PlainListJob → ℕ × PlainPatch → List ℕ
+line_if_selected j n = if is_listed j n.1 then list_line j n else []
 
 -- ---- with all hunks at hand
 
@@ -75,13 +96,13 @@ abbrev pub asks_hunks : PlainShown → Bool
 asks_hunks s = s.hunks || s.empty_absent
 
 -- the line of a file patch, and those of its hunks where they are asked for
-abbrev pub list_lines : PlainListJob → List ℕ → FilePatch → List ℕ
-list_lines j text p = name_line j.shown (patch_of text p) ++ text_if (j.shown.hunks, flat_map (λ line. line) (hunk_lines j.shown.hunk_label text p))
+abbrev pub list_lines : PlainListJob → List ℕ → ℕ × FilePatch → List ℕ
+list_lines j text n = list_line j (n.0, patch_of text n.1) ++ text_if (j.shown.hunks, flat_map (λ line. line) (hunk_lines j.shown.hunk_label text n.1))
 
 -- those of each selected file patch
 unfoldable pub listed_whole : PlainListJob → SetView → List ℕ
-listed_whole j v = flat_map (list_lines j v.text) (filter (λ p. is_listed j (patch_of v.text p)) v.patches)
+listed_whole j v = flat_map (list_lines j v.text) (filter (λ n. is_listed j (patch_of v.text n.1)) (numbered v.patches))
 
 -- the same of one file patch
-abbrev pub lines_if_selected : PlainListJob → List ℕ → FilePatch → List ℕ
-lines_if_selected j text p = if is_listed j (patch_of text p) then list_lines j text p else []
+abbrev pub lines_if_selected : PlainListJob → List ℕ → ℕ × FilePatch → List ℕ
+lines_if_selected j text n = if is_listed j (patch_of text n.1) then list_lines j text n else []

@@ -201,7 +201,7 @@ fn put_found<F: Finder, O: Sink>(
     let found = patch_at(set, patch);
     match job.output {
         GrepOut::Names => {
-            put_name_line(&job.shown, found, set.plain_name(patch), out)?;
+            put_name_line(&job.shown, None, found, set.plain_name(patch), out)?;
             put_lines_if_asked(alloc, text, job, found, first, finder, out)
         }
         GrepOut::Files => Ok(put_piece(out, bytes_at(text, found.span))?),

@@ -18,9 +18,9 @@ use outside::{Failed, Sink};
 use tool_words::Shown;
 
 /// Two numbers of 20 digits at most, two tabs, a word and a line feed.
-type Line = ArrayVec<u8, 64>;
+pub type Line = ArrayVec<u8, 64>;
 
-fn add_decimal(line: &mut Line, number: u64)
+pub fn add_decimal(line: &mut Line, number: u64)
     requires { length line.old.items ≤ 40 }
     ensures text { line.new.items ≡ line.old.items ++ decimal number }
     ensures few { length line.new.items ≤ length line.old.items + 20 }

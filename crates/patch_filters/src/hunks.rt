@@ -8,7 +8,7 @@ ghost use Rattle.patch_text.specs.Digests.{IsDigest, rows_in};
 ghost use Rattle.patch_filters.specs.Digested.{digest_kept, olds_by, range_numbers};
 
 use file_patch::{Change, FilePatch};
-use filter_choice::{Lines, addressed, at_least_one, is_meant, is_one_meant};
+use filter_choice::{Lines, addressed, is_meant, is_one_meant};
 use tool_words::FilterJob;
 use unified_form::OldRange;
 
@@ -18,7 +18,7 @@ fn range_lines(old: OldRange) -> Lines
 {
     let count = u64::from(old.count);
     if count == 0 {
-        let line = at_least_one(old.start);
+        let line = u64::from(old.start);
         return Lines {
             first: line,
             last: line,

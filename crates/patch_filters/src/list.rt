@@ -1,6 +1,6 @@
 //! The list of file patches.
 
-ghost use Rattle.std.specs.Prelude.{◌≡◌, ◌<◌, ◌≤◌, ◌++◌, ℕ, List, codes, length, slice_get};
+ghost use Rattle.std.specs.Prelude.{◌≡◌, ◌+◌, ◌<◌, ◌≤◌, ◌^◌, ◌++◌, ℕ, List, codes, length, slice_get, suc};
 ghost use Rattle.std.specs.List.{list_any};
 ghost use Rattle.std.specs.Option.{ForSome};
 ghost use Rattle.hunk_core.specs.PlainHunk.{hunks_of};
@@ -13,9 +13,9 @@ ghost use Rattle.filter_choice.specs.Outlined.{outlined};
 ghost use Rattle.patch_set.specs.PlainName.{plain_name};
 ghost use Rattle.patch_set.specs.SetView.{patch_at};
 ghost use Rattle.tool_words.specs.PlainJobs.{plain_list_job, plain_shown};
-ghost use Rattle.patch_filters.specs.Listed.{asks_hunks, front, has_no_line, is_gone, line_if_selected, lines_if_selected, listed, listed_whole, name_line, number_text, own_line, sign, sign_text};
+ghost use Rattle.patch_filters.specs.Listed.{asks_hunks, blanks, file_line, file_number, file_text, front, has_no_line, is_gone, line_if_selected, lines_if_selected, listed, listed_whole, name_line, number_text, own_line, sign, sign_text};
 
-use crate::hunk_lines::put_hunk_lines;
+use crate::hunk_lines::{Line, add_decimal, put_hunk_lines};
 use crate::pieces::put_piece;
 use arrayvec::ArrayVec;
 use file_patch::{Change, FilePatch, shortened};
@@ -25,9 +25,6 @@ use num_text::put_number;
 use outside::{Failed, Sink};
 use patch_set::PatchSet;
 use tool_words::{ListJob, Shown};
-
-/// A number of 20 digits at most, a tab, and a sign with its space.
-type Front = ArrayVec<u8, 32>;
 
 fn has_line(hunk: &Hunk, side: Side) -> bool
     ensures { result ≡ list_any (λ l. is_on_side side l.mark) hunk.now.body.items }
@@ -83,7 +80,7 @@ fn sign(patch: &FilePatch, empty: bool) -> &'static [u8]
     }
 }
 
-fn add_number(front: &mut Front, is_asked: bool, number: u64)
+fn add_number(front: &mut Line, is_asked: bool, number: u64)
     requires { length front.old.items ≡ 0 }
     ensures text { front.new.items ≡ number_text is_asked number }
     ensures few { length front.new.items ≤ 21 }
@@ -96,8 +93,45 @@ fn add_number(front: &mut Front, is_asked: bool, number: u64)
     }
 }
 
-fn add_sign(front: &mut Front, shown: &Shown, patch: &FilePatch)
+/// Blanks behind a number that has less than three digits.
+fn blanks(number: u64) -> &'static [u8]
+    ensures blanks { result.now ≡ blanks number }
+    ensures few { length result.now ≤ 2 }
+{
+    if number < 10 {
+        b"  "
+    } else if number < 100 {
+        b" "
+    } else {
+        b""
+    }
+}
+
+/// The number of a file patch, and a tab.
+fn file_line(number: u64) -> Line
+    ensures text { result.items ≡ file_line number }
+    ensures few { length result.items ≤ 29 }
+{
+    let mut text = ArrayVec::new();
+    add_piece(&mut text, b"File #");
+    add_decimal(&mut text, number);
+    add_piece(&mut text, blanks(number));
+    add_piece(&mut text, b"\t");
+    text
+}
+
+fn add_file(front: &mut Line, number: Option<u64>)
     requires { length front.old.items ≤ 21 }
+    ensures text { front.new.items ≡ front.old.items ++ file_text number }
+    ensures few { length front.new.items ≤ 50 }
+{
+    if let Some(number) = number {
+        add_piece(front, file_line(number).as_slice());
+    }
+}
+
+fn add_sign(front: &mut Line, shown: &Shown, patch: &FilePatch)
+    requires { length front.old.items ≤ 50 }
     ensures { (text : List ℕ) → IsLawfulPatch text patch.now → front.new.items ≡ front.old.items ++ sign_text (plain_shown shown.now) (patch_of text patch.now) }
 {
     if shown.status {
@@ -106,11 +140,12 @@ fn add_sign(front: &mut Front, shown: &Shown, patch: &FilePatch)
 }
 
 /// What stands in front of the name.
-fn front(shown: &Shown, patch: &FilePatch) -> Front
-    ensures { (text : List ℕ) → IsLawfulPatch text patch.now → result.items ≡ front (plain_shown shown.now) (patch_of text patch.now) }
+fn front(shown: &Shown, number: Option<u64>, patch: &FilePatch) -> Line
+    ensures { (text : List ℕ) → IsLawfulPatch text patch.now → result.items ≡ front (plain_shown shown.now) number (patch_of text patch.now) }
 {
     let mut front = ArrayVec::new();
     add_number(&mut front, shown.numbers, patch.header.names_line);
+    add_file(&mut front, number);
     add_sign(&mut front, shown, patch);
     front
 }
@@ -123,32 +158,46 @@ fn put_line<O: Sink>(out: &mut O, name: &[u8]) -> Result<(), Failed>
     put_piece(out, b"\n")
 }
 
-/// Writes the line of a file patch with this name.
+/// Writes the line of a file patch with this name, and with this number, if it is shown.
 pub fn put_name_line<O: Sink>(
     shown: &Shown,
+    number: Option<u64>,
     patch: &FilePatch,
     name: &[u8],
     out: &mut O,
 ) -> Result<(), Failed>
-    ensures { (text : List ℕ) → IsLawfulPatch text patch.now → name.now ≡ plain_name (header_of text patch.now.header) → Puts O.view O.same_rest out.old out.new result (name_line (plain_shown shown.now) (patch_of text patch.now)) }
+    ensures { (text : List ℕ) → IsLawfulPatch text patch.now → name.now ≡ plain_name (header_of text patch.now.header) → Puts O.view O.same_rest out.old out.new result (name_line (plain_shown shown.now) number (patch_of text patch.now)) }
 {
     put_piece(out, &shown.label)?;
-    put_own_line(shown, patch, name, out)
+    put_own_line(shown, number, patch, name, out)
 }
 
 /// The same without the name of its text.
 fn put_own_line<O: Sink>(
     shown: &Shown,
+    number: Option<u64>,
     patch: &FilePatch,
     name: &[u8],
     out: &mut O,
 ) -> Result<(), Failed>
-    ensures { (text : List ℕ) → IsLawfulPatch text patch.now → name.now ≡ plain_name (header_of text patch.now.header) → Puts O.view O.same_rest out.old out.new result (own_line (plain_shown shown.now) (patch_of text patch.now)) }
+    ensures { (text : List ℕ) → IsLawfulPatch text patch.now → name.now ≡ plain_name (header_of text patch.now.header) → Puts O.view O.same_rest out.old out.new result (own_line (plain_shown shown.now) number (patch_of text patch.now)) }
 {
-    let front = front(shown, patch);
+    let front = front(shown, number, patch);
     put_piece(out, front.as_slice())?;
     put_piece(out, &shown.prefix)?;
     put_line(out, shortened(shown.strip, name))
+}
+
+/// The number of a file patch, counted from 0, where it is to be shown.
+fn file_number(job: &ListJob, patch: usize) -> Option<u64>
+    requires { patch + 1 < 2 ^ 64 }
+    ensures { result ≡ file_number (plain_list_job job.now) (suc patch) }
+{
+    if job.number_files {
+        Some(patch as u64 + 1)
+    } else {
+        None
+    }
 }
 
 /// Writes the line of a file patch, counted from 0, if it is selected.
@@ -158,18 +207,20 @@ fn put_if_selected<O: Sink>(
     patch: usize,
     out: &mut O,
 ) -> Result<(), Failed>
-    requires { patch < length outline.now.patches }
-    ensures { ForSome (slice_get outline.now.patches patch) (λ p. Puts O.view O.same_rest out.old out.new result (line_if_selected (plain_list_job job.now) (patch_of outline.now.text p))) }
+    requires within { patch < length outline.now.patches }
+    requires few { patch + 1 < 2 ^ 64 }
+    ensures { ForSome (slice_get outline.now.patches patch) (λ p. Puts O.view O.same_rest out.old out.new result (line_if_selected (plain_list_job job.now) (suc patch, patch_of outline.now.text p))) }
 {
     let name = outline.plain_name(patch);
     if !is_selected(&job.select, name) {
         return Ok(());
     }
-    put_name_line(&job.shown, &outline.patches()[patch], name, out)
+    let number = file_number(job, patch);
+    put_name_line(&job.shown, number, &outline.patches()[patch], name, out)
 }
 
 /// Writes a line for each file patch whose name is selected: the name of the text, if that is shown; the number of the line of its names, if it is asked for, and
-/// a tab; a sign that says which side is no file, if that is asked for, and a space; and its name, as it is shown.
+/// a tab; the number of the file patch, if it is asked for; a sign that says which side is no file, if that is asked for, and a space; and its name, as it is shown.
 pub fn list_patches<O: Sink>(outline: &Outline, job: &ListJob, out: &mut O) -> Result<(), Failed>
     ensures writes { Writes (O.view out.old) (O.view out.new) result (listed (plain_list_job job.now) (outlined outline.now)) }
     ensures rest { O.same_rest out.old out.new }
@@ -195,14 +246,20 @@ fn put_whole_if_selected<O: Sink>(
     out: &mut O,
 ) -> Result<(), Failed>
     requires { patch < length set.now.patches }
-    ensures { ForSome (patch_at set.now patch) (λ p. Puts O.view O.same_rest out.old out.new result (lines_if_selected (plain_list_job job.now) set.now.text p)) }
+    ensures { ForSome (patch_at set.now patch) (λ p. Puts O.view O.same_rest out.old out.new result (lines_if_selected (plain_list_job job.now) set.now.text (suc patch, p))) }
 {
     let name = set.plain_name(patch);
     if !is_selected(&job.select, name) {
         return Ok(());
     }
     let found = patch_at(set, patch);
-    put_name_line(&job.shown, found, name, out)?;
+    put_name_line(
+        &job.shown,
+        file_number(job, patch as usize),
+        found,
+        name,
+        out,
+    )?;
     if !job.shown.hunks {
         return Ok(());
     }

@@ -6,7 +6,7 @@ use Rattle.line_list.specs.declared.Span.{Span}
 use Rattle.hunk_core.specs.LineTests.{ends_line}
 use Rattle.patch_header.specs.Region.{LiesIn}
 use Rattle.patch_header.specs.GitRows.{FitsIn}
-use Rattle.patch_header.specs.declared.bare.Pair.{Pair}
+use Rattle.patch_header.specs.declared.git_names.Pair.{Pair}
 use Rattle.patch_header.specs.Values.{span_at, bytes_of, IsPieceOf}
 use Rattle.patch_header.specs.declared.region.Tail.{Tail}
 

@@ -9,7 +9,7 @@ use Rattle.patch_header.specs.GitHeaders.{starts, is_git_line, is_extended, exte
 use Rattle.patch_header.specs.Region.{Row, row, rows, tail_of, first_some, last_tail, later}
 use Rattle.header_record.specs.Quoted.{begins_quoted}
 use Rattle.patch_header.specs.Values.{blanks, length_or, word_length, span_at, bytes_of}
-use Rattle.patch_header.specs.declared.bare.Pair.{Pair}
+use Rattle.patch_header.specs.declared.git_names.Pair.{Pair}
 use Rattle.patch_header.specs.declared.region.Tail.{Tail}
 use Rattle.patch_header.specs.declared.region.Seen.{Seen}
 use Rattle.patch_header.specs.declared.ways.Ways.{Ways}

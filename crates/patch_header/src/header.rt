@@ -8,8 +8,8 @@ ghost use Rattle.patch_header.specs.Said.{SaysWithin};
 ghost use Rattle.patch_header.specs.Steps.{names_line, HasPieces, IsUnled};
 ghost use Rattle.patch_header.specs.Kept.{opening_said};
 
-use crate::bare::git_name;
 use crate::git_lines::{GitLines, action_of, from_in, to_in};
+use crate::git_names::git_name;
 use crate::region::{Seen, Tail};
 use crate::values::{index_in, name_in, stamp_in, whole_in, word_in};
 use header_record::Header;

@@ -4,6 +4,7 @@
 mod bare;
 mod content;
 mod git_lines;
+mod git_names;
 mod git_trail;
 mod header;
 mod openings;

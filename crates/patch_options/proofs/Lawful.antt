@@ -3,10 +3,10 @@ use Rattle.std.proofs.Common.{◌≡◌, ◌&&◌, ◌<◌, ◌≤◌, ◌++◌,
 use Rattle.std.specs.List.{list_any}
 use Rattle.std.specs.Option.{ForSome}
 use Rattle.std.proofs.lemmas.Slice.Eq.{bytes_eq-Decides}
-use Rattle.outside.specs.Names.{is_slash, is_control, broken_given, IsFront}
+use Rattle.outside.specs.Names.{is_slash, is_control, broken_given, broken_rule, IsFront}
 use Rattle.clap.specs.Words.{Row, Text}
 use Rattle.hunk_core.specs.declared.Form.TheVariants.{Unified, Context}
-use Rattle.patch_options.specs.Forms.{is_suffix, is_backup_kind, is_prefix, is_name, is_lasting_name, is_reject_file, is_directory, is_empty, is_macro_name, buffer_of, buffer_in, usual_buffer, largest_buffer, number_of, reject_form_of}
+use Rattle.patch_options.specs.Forms.{is_suffix, backup_numbers_of, is_prefix, is_base_prefix, is_name, is_lasting_name, is_reject_file, is_directory, is_empty, is_macro_name, buffer_of, buffer_in, usual_buffer, largest_buffer, number_of, reject_form_of}
 use Rattle.patch_options.specs.PlainJob.{IsSuffix, HasContext, IsMacroName, IsLawful}
 use Rattle.patch_options.specs.Table.{is_command, options_of, value_of, has_form, outputs_agree, switches_agree, values_agree, names_agree, numbers_agree, words_agree, others_agree, plan_in}
 use Rattle.patch_options.specs.declared.options.PlanKind.{PlanKind}
@@ -45,6 +45,10 @@ unfolding is_prefix is_name
 prefix_is text h =
     let parts = both (is_none (broken_given (text ++ codes "x"))) _ h in
     record { lawful = none_of _ parts.0; normal = (bytes_eq-Decides _ _).0 parts.1 }
+
+base_prefix_is : (text : List ℕ) → is_base_prefix text ≡ true → IsFront text
+unfolding is_base_prefix
+base_prefix_is text h = prefix_is text (both (is_prefix text) (is_none (broken_rule (text ++ codes "x"))) h).0
 
 pub none_has : {X : Type 0} (P : X → Type 0) → ForSome None P
 none_has P = λ x e. cc
@@ -112,18 +116,21 @@ lawful_options rows h =
     let behind_numbers = both (numbers_agree rows) (words_agree rows && (others_agree rows && has_form is_macro_name (value_of rows (codes "ifdef")))) parts.0 in
     let words = both (words_agree rows) (others_agree rows && has_form is_macro_name (value_of rows (codes "ifdef"))) behind_numbers.1 in
     let others = both (others_agree rows) (has_form is_macro_name (value_of rows (codes "ifdef"))) words.1 in
-    let behind_plan = both _ (has_form (λ t. is_some (reject_form_of t)) (value_of rows (codes "reject-format")) && (has_form is_suffix (value_of rows (codes "suffix")) && has_form is_backup_kind (value_of rows (codes "version-control")))) words.0 in
-    let behind_form = both _ (has_form is_suffix (value_of rows (codes "suffix")) && has_form is_backup_kind (value_of rows (codes "version-control"))) behind_plan.1 in
-    let suffix = both (has_form is_suffix (value_of rows (codes "suffix"))) (has_form is_backup_kind (value_of rows (codes "version-control"))) behind_form.1 in
+    let behind_plan = both _ (has_form (λ t. is_some (reject_form_of t)) (value_of rows (codes "reject-format")) && (has_form is_suffix (value_of rows (codes "suffix")) && has_form (λ t. is_some (backup_numbers_of t)) (value_of rows (codes "version-control")))) words.0 in
+    let behind_form = both _ (has_form is_suffix (value_of rows (codes "suffix")) && has_form (λ t. is_some (backup_numbers_of t)) (value_of rows (codes "version-control"))) behind_plan.1 in
+    let suffix = both (has_form is_suffix (value_of rows (codes "suffix"))) (has_form (λ t. is_some (backup_numbers_of t)) (value_of rows (codes "version-control"))) behind_form.1 in
     let behind_input = both _ (has_form is_directory (value_of rows (codes "directory")) && (has_form is_lasting_name (value_of rows (codes "file")) && outputs_agree rows)) parts.1 in
     let behind_dir = both _ (has_form is_lasting_name (value_of rows (codes "file")) && outputs_agree rows) behind_input.1 in
     let outputs = both _ (outputs_agree rows) behind_dir.1 in
-    let behind_output = both _ (has_form is_reject_file (value_of rows (codes "reject-file")) && has_form is_prefix (value_of rows (codes "prefix"))) outputs.1 in
-    let prefix = both _ (has_form is_prefix (value_of rows (codes "prefix"))) behind_output.1 in
+    let prefixes = has_form is_prefix (value_of rows (codes "prefix")) && has_form is_base_prefix (value_of rows (codes "basename-prefix")) in
+    let behind_output = both _ (has_form is_reject_file (value_of rows (codes "reject-file")) && prefixes) outputs.1 in
+    let behind_reject = both _ prefixes behind_output.1 in
+    let prefix = both (has_form is_prefix (value_of rows (codes "prefix"))) (has_form is_base_prefix (value_of rows (codes "basename-prefix"))) behind_reject.1 in
     let size = size_of (value_of rows (codes "buffer")) (plan_in rows) in
     record {
       suffix = of_form is_suffix IsSuffix (value_of rows (codes "suffix")) suffix_is suffix.0;
-      prefix = of_form is_prefix IsFront (value_of rows (codes "prefix")) prefix_is prefix.1;
+      prefix = of_form is_prefix IsFront (value_of rows (codes "prefix")) prefix_is prefix.0;
+      base_prefix = of_form is_base_prefix IsFront (value_of rows (codes "basename-prefix")) base_prefix_is prefix.1;
       reject_form = context_is (value_of rows (codes "reject-format"));
       define = of_form is_macro_name IsMacroName (value_of rows (codes "ifdef")) (λ text is. is) others.1;
       least = size.0;

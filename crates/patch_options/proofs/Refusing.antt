@@ -4,7 +4,7 @@ use Rattle.clap.specs.Words.{Row, Text}
 use Rattle.std.specs.Borrow.{Bor}
 use Rattle.outside.specs.Files.{is_temp}
 use Rattle.outside.specs.Names.{given_form}
-use Rattle.patch_options.specs.Forms.{is_name, is_reject_file, is_prefix, is_directory, is_lasting_name, is_patch_file}
+use Rattle.patch_options.specs.Forms.{is_name, is_reject_file, is_prefix, is_base_prefix, is_directory, is_lasting_name, is_patch_file}
 use Rattle.patch_options.specs.Table.{value_of, text_of, has_form, is_no_file, reject_of, first_given, inputs_agree, switches_agree, values_agree, names_agree, outputs_agree, is_command}
 use Rattle.patch_options.specs.declared.options.WordFault.{WordFault}
 use Rattle.patch_options.specs.declared.options.WordFault.TheVariants.{Usage, Memory}
@@ -92,13 +92,19 @@ module _ (rows : List Row) (fault : WordFault) (given : Option Text) where
 
   pub prefix_refused : given ≡ value_of rows (codes "prefix") → (fault ≡ Memory) ⊎ ((fault ≡ Usage) × (has_form is_prefix given ≡ false)) → (fault ≡ Memory) ⊎ ((fault ≡ Usage) × (outputs_agree rows ≡ false))
   unfolding outputs_agree
-  prefix_refused same = refused_as fault _ _ (λ none. no_right _ _ (no_right _ _ (has_value is_prefix _ same none)))
+  prefix_refused same = refused_as fault _ _ (λ none. no_right _ _ (no_right _ _ (no_left _ _ (has_value is_prefix _ same none))))
 
-pub outputs_lawful : (rows : List Row) {output reject prefix : Option Text} → output ≡ value_of rows (codes "output") → has_form is_lasting_name output ≡ true → reject ≡ value_of rows (codes "reject-file") → has_form is_reject_file reject ≡ true
-    → prefix ≡ value_of rows (codes "prefix") → has_form is_prefix prefix ≡ true → outputs_agree rows ≡ true
+  pub base_prefix_refused : given ≡ value_of rows (codes "basename-prefix") → (fault ≡ Memory) ⊎ ((fault ≡ Usage) × (has_form is_base_prefix given ≡ false)) → (fault ≡ Memory) ⊎ ((fault ≡ Usage) × (outputs_agree rows ≡ false))
+  unfolding outputs_agree
+  base_prefix_refused same = refused_as fault _ _ (λ none. no_right (has_form is_lasting_name (value_of rows (codes "output"))) _
+      (no_right (has_form is_reject_file (value_of rows (codes "reject-file"))) _ (no_right (has_form is_prefix (value_of rows (codes "prefix"))) _ (has_value is_base_prefix _ same none))))
+
+pub outputs_lawful : (rows : List Row) {output reject prefix base_prefix : Option Text} → output ≡ value_of rows (codes "output") → has_form is_lasting_name output ≡ true → reject ≡ value_of rows (codes "reject-file") → has_form is_reject_file reject ≡ true
+    → prefix ≡ value_of rows (codes "prefix") → has_form is_prefix prefix ≡ true → base_prefix ≡ value_of rows (codes "basename-prefix") → has_form is_base_prefix base_prefix ≡ true → outputs_agree rows ≡ true
 unfolding outputs_agree
-outputs_lawful rows same_output output same_reject reject same_prefix prefix =
-    all_yes _ _ (has_value is_lasting_name _ same_output output) (all_yes _ _ (has_value is_reject_file _ same_reject reject) (has_value is_prefix _ same_prefix prefix))
+outputs_lawful rows same_output output same_reject reject same_prefix prefix same_base base =
+    all_yes _ _ (has_value is_lasting_name _ same_output output)
+    (all_yes _ _ (has_value is_reject_file _ same_reject reject) (all_yes _ _ (has_value is_prefix _ same_prefix prefix) (has_value is_base_prefix _ same_base base)))
 
 -- ---- all names
 

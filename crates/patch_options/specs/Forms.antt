@@ -3,11 +3,15 @@ use Rattle.std.specs.Prelude.{ℕ, ◌^◌, List, [], ◌∷◌, ◌++◌, codes
 use Rattle.std.specs.List.{list_all, list_any, starts_with}
 use Rattle.num_text.specs.Numbers.{number_at}
 use Rattle.outside.specs.Files.{is_temp}
-use Rattle.outside.specs.Names.{broken_given, given_form, is_here, is_slash, is_control}
+use Rattle.outside.specs.Names.{broken_given, broken_rule, given_form, is_here, is_slash, is_control}
 use Rattle.hunk_core.specs.declared.Form.{Form}
 use Rattle.hunk_core.specs.declared.Form.TheVariants.{Unified, Context}
 use Rattle.patch_options.specs.declared.options.PlanKind.{PlanKind}
 use Rattle.patch_options.specs.declared.options.PlanKind.TheVariants.{Whole, Padded, Packed, Auto}
+use Rattle.patch_options.specs.declared.options.BackupNumbers.{BackupNumbers}
+use Rattle.patch_options.specs.declared.options.BackupNumbers.TheVariants.{Existing, Always}
+use Rattle.patch_options.specs.declared.options.ReadOnlyFiles.{ReadOnlyFiles}
+use Rattle.patch_options.specs.declared.options.ReadOnlyFiles.TheVariants.{Told, Replaced, Refused}
 use Rattle.patch_options.specs.declared.options.SyncKind.{SyncKind}
 use Rattle.patch_options.specs.declared.options.SyncKind.TheVariants.{Each, Never}
 
@@ -66,17 +70,26 @@ is_suffix text = not (is_empty text) && (not (list_any is_slash text) && (not (l
 unfoldable pub is_front : List ℕ → List ℕ → Bool
 is_front text word = starts_with nat_eq word text
 
--- it can be cut short from a kind of backups that there is: none is asked for by it, and each has its one name
-abbrev pub is_kind_front : List ℕ → Bool
-is_kind_front text = (is_front text (codes "none") || is_front text (codes "off")) || (is_front text (codes "simple") || is_front text (codes "never"))
+-- it can be cut short from a kind of backups whose names have no numbers
+abbrev pub names_simple : List ℕ → Bool
+names_simple text = (is_front text (codes "none") || is_front text (codes "off")) || (is_front text (codes "simple") || is_front text (codes "never"))
 
--- it can be cut short from a kind that numbers backups
-abbrev pub is_numbered_front : List ℕ → Bool
-is_numbered_front text = (is_front text (codes "existing") || is_front text (codes "nil")) || (is_front text (codes "numbered") || is_front text (codes "t"))
+-- from one whose names have numbers where there is such a backup already
+abbrev pub names_existing : List ℕ → Bool
+names_existing text = is_front text (codes "existing") || is_front text (codes "nil")
 
--- the text names a kind of backups that there is, whole or cut short, and no other kind
-unfoldable pub is_backup_kind : List ℕ → Bool
-is_backup_kind text = is_kind_front text && not (is_numbered_front text)
+-- from one whose names have numbers
+abbrev pub names_numbered : List ℕ → Bool
+names_numbered text = is_front text (codes "numbered") || is_front text (codes "t")
+
+abbrev pub only_if : Bool → BackupNumbers → Option BackupNumbers
+only_if is kind = if is then Some kind else None
+
+-- the kind of backups that a text names, whole or cut short, where it names no other kind (GNU patch manual, "Backup Files")
+unfoldable pub backup_numbers_of : List ℕ → Option BackupNumbers
+backup_numbers_of text = if names_simple text then only_if (not (names_existing text || names_numbered text)) BackupNumbers.Never
+    else if names_existing text then only_if (not (names_numbered text)) Existing
+    else only_if (names_numbered text) Always
 
 abbrev pub is_digit : ℕ → Bool
 is_digit b = nat_le 48 b && nat_le b 57
@@ -98,9 +111,12 @@ unfoldable pub is_quoting_style : List ℕ → Bool
 is_quoting_style text = (bytes_eq text (codes "literal") || bytes_eq text (codes "shell"))
     || (bytes_eq text (codes "shell-always") || (bytes_eq text (codes "c") || bytes_eq text (codes "escape")))
 
--- what is done about files that may not be written, where a run goes on
-unfoldable pub is_read_only : List ℕ → Bool
-is_read_only text = bytes_eq text (codes "warn") || bytes_eq text (codes "ignore")
+-- what is done about files that may not be written to, as a text names it
+unfoldable pub read_only_of : List ℕ → Option ReadOnlyFiles
+read_only_of text = if bytes_eq text (codes "warn") then Some Told
+    else if bytes_eq text (codes "ignore") then Some Replaced
+    else if bytes_eq text (codes "fail") then Some Refused
+    else None
 
 -- when what is written is on the disk, as a text names it
 unfoldable pub sync_of : List ℕ → Option SyncKind
@@ -144,3 +160,7 @@ is_patch_file text = bytes_eq text (codes "-") || is_name text
 -- what may stand before a name: with `x` behind it, it is the text of a name in normal form
 unfoldable pub is_prefix : List ℕ → Bool
 is_prefix text = is_name (text ++ codes "x") && bytes_eq (given_form (text ++ codes "x")) (text ++ codes "x")
+
+-- what may stand before the last component of a name: a front that a patch may give, which leads nowhere else
+unfoldable pub is_base_prefix : List ℕ → Bool
+is_base_prefix text = is_prefix text && is_none (broken_rule (text ++ codes "x"))

@@ -11,6 +11,7 @@ pub record HasOutputs (rows : List Row) (o : Outputs) : Type 0 where
   pub reject : o.reject ≡ option_and_then reject_of (value_of rows (codes "reject-file"))
   pub no_rejects : o.no_rejects ≡ is_no_file (value_of rows (codes "reject-file"))
   pub prefix : option_map string_bytes o.prefix ≡ value_of rows (codes "prefix")
+  pub base_prefix : option_map string_bytes o.base_prefix ≡ value_of rows (codes "basename-prefix")
 
 pub record HasNames (rows : List Row) (n : Names) : Type 0 where
   pub input : n.input ≡ input_of (first_given (value_of rows (codes "input")) (value_of rows (codes "patchfile")))

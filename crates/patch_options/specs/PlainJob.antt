@@ -8,6 +8,9 @@ use Rattle.hunk_core.specs.declared.Form.TheVariants.{Normal, Ed}
 use Rattle.patch_options.specs.Forms.{is_macro_name, largest_buffer}
 use Rattle.patch_options.specs.declared.options.PlanKind.{PlanKind}
 use Rattle.patch_options.specs.declared.options.SyncKind.{SyncKind}
+use Rattle.patch_options.specs.declared.options.BackupNumbers.{BackupNumbers}
+use Rattle.patch_options.specs.declared.options.FileTimes.{FileTimes}
+use Rattle.patch_options.specs.declared.options.ReadOnlyFiles.{ReadOnlyFiles}
 use Rattle.patch_options.specs.declared.options.Input.{Input}
 use Rattle.patch_options.specs.declared.options.Options.{Options}
 use Rattle.patch_options.specs.declared.options.Job.{Job}
@@ -28,6 +31,8 @@ pub record PlainOptions : Type 0 where
   pub mismatch_backup : Bool
   pub suffix : Option (List ℕ)
   pub prefix : Option (List ℕ)
+  pub base_prefix : Option (List ℕ)
+  pub numbers : BackupNumbers
   pub dir : Option (List ℕ)
   pub file : Option (List ℕ)
   pub input : Input
@@ -40,6 +45,8 @@ pub record PlainOptions : Type 0 where
   pub keep_returns : Bool
   pub skip_binary : Bool
   pub dry_run : Bool
+  pub read_only : ReadOnlyFiles
+  pub times : FileTimes
   pub follow_links : Bool
   pub silent : Bool
   pub verbose : Bool
@@ -62,6 +69,8 @@ plain_options o = record {
   mismatch_backup = o.mismatch_backup;
   suffix = option_map string_bytes o.suffix;
   prefix = option_map string_bytes o.prefix;
+  base_prefix = option_map string_bytes o.base_prefix;
+  numbers = o.numbers;
   dir = o.dir;
   file = o.file;
   input = o.input;
@@ -74,6 +83,8 @@ plain_options o = record {
   keep_returns = o.keep_returns;
   skip_binary = o.skip_binary;
   dry_run = o.dry_run;
+  read_only = o.read_only;
+  times = o.times;
   follow_links = o.follow_links;
   silent = o.silent;
   verbose = o.verbose;
@@ -107,6 +118,7 @@ IsMacroName text = is_macro_name text ≡ true
 pub record IsLawful (o : PlainOptions) : Type 0 where
   pub suffix : ForSome o.suffix IsSuffix
   pub prefix : ForSome o.prefix IsFront
+  pub base_prefix : ForSome o.base_prefix IsFront
   pub reject_form : ForSome o.reject_form HasContext
   pub define : ForSome o.define IsMacroName
   pub least : 512 ≤ o.buffer

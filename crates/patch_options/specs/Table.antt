@@ -6,10 +6,15 @@ use Rattle.clap.specs.Words.{Row, Text, count_of, first_of}
 use Rattle.outside.specs.Names.{given_form, is_here}
 use Rattle.hunk_core.specs.declared.Form.{Form}
 use Rattle.hunk_core.specs.declared.Form.TheVariants.{Unified, Context, Normal, Ed}
-use Rattle.patch_options.specs.Forms.{number_of, buffer_of, usual_buffer, plan_of, reject_form_of, is_suffix, is_backup_kind, is_get, is_quoting_style, is_read_only, sync_of, is_macro_name, is_prefix, is_lasting_name, is_reject_file, is_directory, is_patch_file}
+use Rattle.patch_options.specs.Forms.{number_of, buffer_of, usual_buffer, plan_of, reject_form_of, is_suffix, backup_numbers_of, is_get, is_quoting_style, read_only_of, sync_of, is_macro_name, is_prefix, is_base_prefix, is_lasting_name, is_reject_file, is_directory, is_patch_file}
 use Rattle.patch_options.specs.PlainJob.{PlainOptions}
 use Rattle.patch_options.specs.declared.options.PlanKind.{PlanKind}
 use Rattle.patch_options.specs.declared.options.PlanKind.TheVariants.{Auto}
+use Rattle.patch_options.specs.declared.options.BackupNumbers.{BackupNumbers}
+use Rattle.patch_options.specs.declared.options.FileTimes.{FileTimes}
+use Rattle.patch_options.specs.declared.options.FileTimes.TheVariants.{Written, Local, Utc}
+use Rattle.patch_options.specs.declared.options.ReadOnlyFiles.{ReadOnlyFiles}
+use Rattle.patch_options.specs.declared.options.ReadOnlyFiles.TheVariants.{Told}
 use Rattle.patch_options.specs.declared.options.SyncKind.{SyncKind}
 use Rattle.patch_options.specs.declared.options.SyncKind.TheVariants.{Each}
 use Rattle.patch_options.specs.declared.options.Input.{Input}
@@ -55,16 +60,15 @@ numbers_agree rows = has_form (λ t. is_some (number_of t)) (value_of rows (code
 abbrev pub words_agree : List Row → Bool
 words_agree rows = has_form (λ t. is_some (plan_of t)) (value_of rows (codes "plan"))
     && (has_form (λ t. is_some (reject_form_of t)) (value_of rows (codes "reject-format"))
-    && (has_form is_suffix (value_of rows (codes "suffix")) && has_form is_backup_kind (value_of rows (codes "version-control"))))
+    && (has_form is_suffix (value_of rows (codes "suffix")) && has_form (λ t. is_some (backup_numbers_of t)) (value_of rows (codes "version-control"))))
 
 abbrev pub writing_agrees : List Row → Bool
-writing_agrees rows = has_form is_read_only (value_of rows (codes "read-only")) && has_form (λ t. is_some (sync_of t)) (value_of rows (codes "sync"))
+writing_agrees rows = has_form (λ t. is_some (read_only_of t)) (value_of rows (codes "read-only")) && has_form (λ t. is_some (sync_of t)) (value_of rows (codes "sync"))
 
 abbrev pub others_agree : List Row → Bool
 others_agree rows = has_form is_quoting_style (value_of rows (codes "quoting-style")) && writing_agrees rows
 
--- numbers, words, the suffix and the name that conditions test have their forms; what `get`, `version-control`, `quoting-style` and
--- `read-only` ask for is so in any case
+-- numbers, words, the suffix and the name that conditions test have their forms; what `get` and `quoting-style` ask for is so in any case
 abbrev pub values_agree : List Row → Bool
 values_agree rows = numbers_agree rows && (words_agree rows && (others_agree rows && has_form is_macro_name (value_of rows (codes "ifdef"))))
 
@@ -79,7 +83,8 @@ inputs_agree input operand = not (is_some input && is_some operand) && (has_form
 -- the names that are written, and what stands before that of a backup, are lawful
 unfoldable pub outputs_agree : List Row → Bool
 outputs_agree rows = has_form is_lasting_name (value_of rows (codes "output"))
-    && (has_form is_reject_file (value_of rows (codes "reject-file")) && has_form is_prefix (value_of rows (codes "prefix")))
+    && (has_form is_reject_file (value_of rows (codes "reject-file"))
+    && (has_form is_prefix (value_of rows (codes "prefix")) && has_form is_base_prefix (value_of rows (codes "basename-prefix"))))
 
 -- names are lawful
 abbrev pub names_agree : List Row → Bool
@@ -103,6 +108,22 @@ only_form rows = if is_used rows (codes "context") then Some Context
 -- a backup is made where a hunk failed or stands elsewhere than it says; with `--posix` only where that is asked for
 abbrev pub mismatch_backup : List Row → Bool
 mismatch_backup rows = if is_used rows (codes "posix") then is_used rows (codes "backup-if-mismatch") else not (is_used rows (codes "no-backup-if-mismatch"))
+
+-- whether words give the whole name of a backup, which then has no number
+abbrev pub is_backup_named : List Row → Bool
+is_backup_named rows = is_some (value_of rows (codes "suffix")) || (is_some (value_of rows (codes "prefix")) || is_some (value_of rows (codes "basename-prefix")))
+
+-- whether names of backups have numbers
+abbrev pub numbers_in : List Row → BackupNumbers
+numbers_in rows = if is_backup_named rows then BackupNumbers.Never else unwrap_or (option_and_then backup_numbers_of (value_of rows (codes "version-control"))) BackupNumbers.Never
+
+-- what is done about files that may not be written to
+abbrev pub read_only_in : List Row → ReadOnlyFiles
+read_only_in rows = unwrap_or (option_and_then read_only_of (value_of rows (codes "read-only"))) Told
+
+-- when written files say that they were written
+abbrev pub times_in : List Row → FileTimes
+times_in rows = if is_used rows (codes "set-utc") then Utc else if is_used rows (codes "set-time") then Local else Written
 
 -- when what is written is on the disk
 abbrev pub sync_in : List Row → SyncKind
@@ -151,6 +172,8 @@ options_of rows = record {
   mismatch_backup = mismatch_backup rows;
   suffix = value_of rows (codes "suffix");
   prefix = value_of rows (codes "prefix");
+  base_prefix = value_of rows (codes "basename-prefix");
+  numbers = numbers_in rows;
   dir = option_and_then directory_of (value_of rows (codes "directory"));
   file = option_map given_form (value_of rows (codes "file"));
   input = input_of (first_given (value_of rows (codes "input")) (value_of rows (codes "patchfile")));
@@ -163,6 +186,8 @@ options_of rows = record {
   keep_returns = is_used rows (codes "binary");
   skip_binary = is_used rows (codes "skip-binary");
   dry_run = is_used rows (codes "dry-run");
+  read_only = read_only_in rows;
+  times = times_in rows;
   follow_links = is_used rows (codes "follow-symlinks");
   silent = is_used rows (codes "silent") || is_used rows (codes "quiet");
   verbose = is_used rows (codes "verbose");

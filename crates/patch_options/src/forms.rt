@@ -2,9 +2,9 @@
 ghost use Rattle.std.specs.Prelude.{◌≡◌, ◌&&◌, ◌||◌, nat_le};
 ghost use Rattle.std.specs.List.{list_all};
 ghost use Rattle.outside.specs.Files.{is_temp};
-ghost use Rattle.patch_options.specs.Forms.{number_of, buffer_of, plan_of, reject_form_of, is_suffix, is_front, is_kind_front, is_numbered_front, is_backup_kind, is_digit, are_digits, is_get, is_quoting_style, is_read_only, sync_of, begins_name, goes_on_name, is_macro_name};
+ghost use Rattle.patch_options.specs.Forms.{number_of, buffer_of, plan_of, reject_form_of, is_suffix, is_front, names_simple, names_existing, names_numbered, backup_numbers_of, is_digit, are_digits, is_get, is_quoting_style, read_only_of, sync_of, begins_name, goes_on_name, is_macro_name};
 
-use crate::{PlanKind, SyncKind};
+use crate::{BackupNumbers, PlanKind, ReadOnlyFiles, SyncKind};
 use hunk_core::Form;
 use num_text::{Number, read_number};
 use outside::is_ending;
@@ -74,25 +74,39 @@ pub fn is_front(text: &str, word: &str) -> bool
     word.as_bytes().starts_with(text.as_bytes())
 }
 
-/// Whether the text names a kind of backups that there is, and none that numbers them: each backup has its one name, and none is asked
-/// for by this word.
-#[tactic(auto, unfolding(crate::specs::Forms::is_backup_kind))]
-pub fn is_backup_kind(text: &str) -> bool
-    ensures { result ≡ is_backup_kind text.now }
+/// The kind of backups that the text names, whole or cut short, where it names no other kind.
+#[tactic(auto, unfolding(crate::specs::Forms::backup_numbers_of))]
+pub fn backup_numbers_of(text: &str) -> Option<BackupNumbers>
+    ensures { result ≡ backup_numbers_of text.now }
 {
-    is_kind_front(text) && !is_numbered_front(text)
+    match (
+        names_simple(text),
+        names_existing(text),
+        names_numbered(text),
+    ) {
+        (true, false, false) => Some(BackupNumbers::Never),
+        (false, true, false) => Some(BackupNumbers::Existing),
+        (false, false, true) => Some(BackupNumbers::Always),
+        _ => None,
+    }
 }
 
-fn is_kind_front(text: &str) -> bool
-    ensures { result ≡ is_kind_front text.now }
+fn names_simple(text: &str) -> bool
+    ensures { result ≡ names_simple text.now }
 {
     is_one_front(text, "none", "off") || is_one_front(text, "simple", "never")
 }
 
-fn is_numbered_front(text: &str) -> bool
-    ensures { result ≡ is_numbered_front text.now }
+fn names_existing(text: &str) -> bool
+    ensures { result ≡ names_existing text.now }
 {
-    is_one_front(text, "existing", "nil") || is_one_front(text, "numbered", "t")
+    is_one_front(text, "existing", "nil")
+}
+
+fn names_numbered(text: &str) -> bool
+    ensures { result ≡ names_numbered text.now }
+{
+    is_one_front(text, "numbered", "t")
 }
 
 fn is_one_front(text: &str, one: &str, other: &str) -> bool
@@ -141,12 +155,17 @@ pub fn is_quoting_style(text: &str) -> bool
     }
 }
 
-/// Whether the text says what is done about files that may not be written, where a run goes on.
-#[tactic(auto, unfolding(crate::specs::Forms::is_read_only))]
-pub fn is_read_only(text: &str) -> bool
-    ensures { result ≡ is_read_only text.now }
+/// What is done about files that may not be written to, if the text says that.
+#[tactic(auto, unfolding(crate::specs::Forms::read_only_of))]
+pub fn read_only_of(text: &str) -> Option<ReadOnlyFiles>
+    ensures { result ≡ read_only_of text.now }
 {
-    text == "warn" || text == "ignore"
+    match text {
+        "warn" => Some(ReadOnlyFiles::Told),
+        "ignore" => Some(ReadOnlyFiles::Replaced),
+        "fail" => Some(ReadOnlyFiles::Refused),
+        _ => None,
+    }
 }
 
 /// When what is written is on the disk, if the text says that.

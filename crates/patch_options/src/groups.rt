@@ -203,6 +203,27 @@ const OUTPUT: &[Word] = &[
         help: "say also which hunks stand where they say",
     },
     Word {
+        form: WordForm::Switch,
+        letter: Some('T'),
+        name: "set-time",
+        shown: "-T, --set-time",
+        help: "give files the times of their stamps, by local clocks",
+    },
+    Word {
+        form: WordForm::Switch,
+        letter: Some('Z'),
+        name: "set-utc",
+        shown: "-Z, --set-utc",
+        help: "give them those times, by UTC",
+    },
+    Word {
+        form: WordForm::Value,
+        letter: None,
+        name: "read-only",
+        shown: "--read-only=warn|ignore|fail",
+        help: "files that may not be written to (warn)",
+    },
+    Word {
         form: WordForm::Value,
         letter: None,
         name: "sync",
@@ -253,10 +274,17 @@ const BACKUPS: &[Word] = &[
     },
     Word {
         form: WordForm::Value,
+        letter: Some('Y'),
+        name: "basename-prefix",
+        shown: "-Y S, --basename-prefix=S",
+        help: "the prefix of their last components",
+    },
+    Word {
+        form: WordForm::Value,
         letter: Some('V'),
         name: "version-control",
-        shown: "-V KIND, --version-control=none|off|simple|never",
-        help: "changes nothing",
+        shown: "-V KIND, --version-control=never|existing|numbered",
+        help: "numbers in their names (never)",
     },
 ];
 
@@ -305,13 +333,6 @@ const OTHERS: &[Word] = &[
         name: "quoting-style",
         shown: "--quoting-style=literal|shell|shell-always|c|escape",
         help: "changes nothing: names are written as they are",
-    },
-    Word {
-        form: WordForm::Value,
-        letter: None,
-        name: "read-only",
-        shown: "--read-only=warn|ignore",
-        help: "changes nothing",
     },
 ];
 

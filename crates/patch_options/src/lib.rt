@@ -14,7 +14,9 @@ mod words;
 pub use forms::number_of;
 pub use groups::patch_table;
 pub use names::{input_of, lasting_name_of, read_name};
-pub use options::{Input, Job, Options, PlanKind, SyncKind, WordFault};
+pub use options::{
+    BackupNumbers, FileTimes, Input, Job, Options, PlanKind, ReadOnlyFiles, SyncKind, WordFault,
+};
 pub use simple::{Group, Word, WordForm, last_values_count, matched_by, values_of};
 pub use table::{
     buffer_in, is_buffer, is_number, is_plan, is_sync, is_used, number_in, plan_in, sync_in,

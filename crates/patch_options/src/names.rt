@@ -1,8 +1,8 @@
 //! The names that a command gives.
-ghost use Rattle.std.specs.Prelude.{◌≡◌, ◌⊎◌, ◌++◌, codes, bytes_eq, true, false, IfOk, IfErr, string_bytes, option_map, option_and_then};
+ghost use Rattle.std.specs.Prelude.{◌≡◌, ◌⊎◌, ◌++◌, codes, bytes_eq, true, false, is_none, IfOk, IfErr, string_bytes, option_map, option_and_then};
 ghost use Rattle.patch_options.specs.HasNames.{HasNames, HasOutputs};
-ghost use Rattle.outside.specs.Names.{given_form};
-ghost use Rattle.patch_options.specs.Forms.{is_name, is_lasting_name, is_reject_file, is_directory, is_patch_file, is_prefix};
+ghost use Rattle.outside.specs.Names.{given_form, broken_rule};
+ghost use Rattle.patch_options.specs.Forms.{is_name, is_lasting_name, is_reject_file, is_directory, is_patch_file, is_prefix, is_base_prefix};
 ghost use Rattle.patch_options.specs.Simple.{rows_in};
 ghost use Rattle.patch_options.specs.Table.{text_of, has_form, names_agree, outputs_agree, inputs_agree, input_of, first_given, directory_of, reject_of, is_no_file};
 
@@ -19,6 +19,7 @@ pub struct Outputs {
     pub reject: Option<Name>,
     pub no_rejects: bool,
     pub prefix: Option<String>,
+    pub base_prefix: Option<String>,
 }
 
 /// The names of a command.
@@ -77,12 +78,17 @@ fn read_outputs(alloc: Global, matches: &ArgMatches<'_>) -> Result<Outputs, Word
         Ok(reject) => reject,
         Err(fault) => return Err(fault),
     };
-    match read_prefix(alloc, value_of(matches, "prefix")) {
-        Ok(prefix) => Ok(Outputs {
+    let prefix = match read_prefix(alloc, value_of(matches, "prefix")) {
+        Ok(prefix) => prefix,
+        Err(fault) => return Err(fault),
+    };
+    match read_base_prefix(alloc, value_of(matches, "basename-prefix")) {
+        Ok(base_prefix) => Ok(Outputs {
             output,
             reject,
             no_rejects: is_no_file(value_of(matches, "reject-file")),
             prefix,
+            base_prefix,
         }),
         Err(fault) => Err(fault),
     }
@@ -260,6 +266,48 @@ fn read_prefix(alloc: Global, text: Option<&str>) -> Result<Option<String>, Word
 {
     match text {
         Some(text) => Ok(Some(prefix_of(alloc, text)?)),
+        None => Ok(None),
+    }
+}
+
+/// What may stand before the last component of a name: a front that a patch may give, too.
+#[tactic(auto, unfolding(crate::specs::Forms::is_base_prefix))]
+fn base_prefix_of(alloc: Global, text: &str) -> Result<String, WordFault>
+    ensures prefix { IfOk result (λ prefix. string_bytes prefix ≡ text.now) }
+    ensures lawful { IfOk result (λ prefix. is_base_prefix text.now ≡ true) }
+    ensures refused { IfErr result (λ fault. (fault ≡ WordFault.Memory) ⊎ ((fault ≡ WordFault.Usage) × (is_base_prefix text.now ≡ false))) }
+{
+    let prefix = match prefix_of(alloc, text) {
+        Ok(prefix) => prefix,
+        Err(fault) => return Err(fault),
+    };
+    match is_patch_front(alloc, text) {
+        Ok(true) => Ok(prefix),
+        Ok(false) => Err(WordFault::Usage),
+        Err(fault) => Err(fault),
+    }
+}
+
+/// Whether a patch may give the text with `x` behind it as a name.
+fn is_patch_front(alloc: Global, text: &str) -> Result<bool, WordFault>
+    ensures is { IfOk result (λ is. is ≡ is_none (broken_rule (text.now ++ codes "x"))) }
+    ensures refused { IfErr result (λ fault. fault ≡ WordFault.Memory) }
+{
+    let sample = sample_of(alloc, text)?;
+    match Name::new(alloc, sample.as_str().as_bytes()) {
+        Ok(_) => Ok(true),
+        Err(NameFault::Refused { rule: _ }) => Ok(false),
+        Err(NameFault::Memory) => Err(WordFault::Memory),
+    }
+}
+
+fn read_base_prefix(alloc: Global, text: Option<&str>) -> Result<Option<String>, WordFault>
+    ensures prefix { IfOk result (λ given. option_map string_bytes given ≡ text_of text.entry) }
+    ensures lawful { IfOk result (λ given. has_form is_base_prefix (text_of text.entry) ≡ true) }
+    ensures refused { IfErr result (λ fault. (fault ≡ WordFault.Memory) ⊎ ((fault ≡ WordFault.Usage) × (has_form is_base_prefix (text_of text.entry) ≡ false))) }
+{
+    match text {
+        Some(text) => Ok(Some(base_prefix_of(alloc, text)?)),
         None => Ok(None),
     }
 }

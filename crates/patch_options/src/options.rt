@@ -34,6 +34,37 @@ pub enum SyncKind {
     Never,
 }
 
+/// Whether the names of backups have numbers, as `f.~1~`.
+#[derive(Clone, Copy, Debug)]
+pub enum BackupNumbers {
+    Never,
+    /// Where the file has a numbered backup already.
+    Existing,
+    Always,
+}
+
+/// When a written file says that it was written.
+#[derive(Clone, Copy, Debug)]
+pub enum FileTimes {
+    /// When it was.
+    Written,
+    /// At its new stamp, which is local time where it tells no zone.
+    Local,
+    /// At its new stamp, which is UTC where it tells no zone.
+    Utc,
+}
+
+/// What is done about a file that may not be written to.
+#[derive(Clone, Copy, Debug)]
+pub enum ReadOnlyFiles {
+    /// It is told, and replaced.
+    Told,
+    /// It is replaced.
+    Replaced,
+    /// Its file patch is refused.
+    Refused,
+}
+
 /// One command of `patch`. Names are as given, without the directory before them.
 #[derive(Drop, Debug)]
 pub struct Options {
@@ -59,6 +90,9 @@ pub struct Options {
     pub suffix: Option<String>,
     /// What stands before the name of a backup.
     pub prefix: Option<String>,
+    /// What stands before the last component of a backup's name.
+    pub base_prefix: Option<String>,
+    pub numbers: BackupNumbers,
     pub dir: Option<Name>,
     /// The file to be patched.
     pub file: Option<Name>,
@@ -78,6 +112,9 @@ pub struct Options {
     /// Binary changes are passed over, where a patch text that has one is refused without this.
     pub skip_binary: bool,
     pub dry_run: bool,
+    pub read_only: ReadOnlyFiles,
+    /// No definition has times.
+    pub times: FileTimes,
     /// A file that is a link is read behind it. It is for who opens files, and changes nothing else.
     pub follow_links: bool,
     pub silent: bool,

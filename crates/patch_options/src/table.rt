@@ -1,17 +1,17 @@
 //! What each switch and each value of `patch` gives.
 ghost use Rattle.std.specs.Prelude.{◌≡◌, ◌⊎◌, ◌||◌, ◌<◌, codes, true, false, is_some, IfOk, IfErr, string_bytes, option_map, option_and_then, unwrap_or};
-ghost use Rattle.patch_options.specs.Forms.{number_of, buffer_of, usual_buffer, plan_of, reject_form_of, is_suffix, is_backup_kind, is_get, is_quoting_style, is_read_only, sync_of, is_macro_name};
+ghost use Rattle.patch_options.specs.Forms.{number_of, buffer_of, usual_buffer, plan_of, reject_form_of, is_suffix, backup_numbers_of, is_get, is_quoting_style, read_only_of, sync_of, is_macro_name};
 ghost use Rattle.patch_options.specs.HasNames.{HasNames};
 ghost use Rattle.patch_options.specs.PlainJob.{plain_options};
 ghost use Rattle.patch_options.specs.Simple.{rows_in};
-ghost use Rattle.patch_options.specs.Table.{uses, value_of, text_of, has_form, is_used, are_both_used, forms_named, exclusions_hold, switches_agree, numbers_agree, words_agree, writing_agrees, others_agree, values_agree, is_command, options_of, only_form, mismatch_backup, sync_in, plan_in, buffer_size};
+ghost use Rattle.patch_options.specs.Table.{uses, value_of, text_of, has_form, is_used, are_both_used, forms_named, exclusions_hold, is_backup_named, numbers_in, read_only_in, times_in, switches_agree, numbers_agree, words_agree, writing_agrees, others_agree, values_agree, is_command, options_of, only_form, mismatch_backup, sync_in, plan_in, buffer_size};
 
 use crate::forms::{
-    buffer_of, is_backup_kind, is_get, is_macro_name, is_quoting_style, is_read_only, is_suffix,
-    number_of, plan_of, reject_form_of, sync_of,
+    backup_numbers_of, buffer_of, is_get, is_macro_name, is_quoting_style, is_suffix, number_of,
+    plan_of, read_only_of, reject_form_of, sync_of,
 };
 use crate::names::{Names, read_names};
-use crate::{Options, PlanKind, SyncKind, WordFault};
+use crate::{BackupNumbers, FileTimes, Options, PlanKind, ReadOnlyFiles, SyncKind, WordFault};
 use clap::ArgMatches;
 use hunk_core::Form;
 use std::alloc::{AllocError, Global};
@@ -53,6 +53,8 @@ fn options_of(matches: &ArgMatches<'_>, names: Names, texts: Texts) -> Options
         mismatch_backup: mismatch_backup(matches),
         suffix: texts.suffix,
         prefix: outputs.prefix,
+        base_prefix: outputs.base_prefix,
+        numbers: numbers_in(matches),
         dir: names.dir,
         file: names.file,
         input: names.input,
@@ -65,6 +67,8 @@ fn options_of(matches: &ArgMatches<'_>, names: Names, texts: Texts) -> Options
         keep_returns: is_used(matches, "binary"),
         skip_binary: is_used(matches, "skip-binary"),
         dry_run: is_used(matches, "dry-run"),
+        read_only: read_only_in(matches),
+        times: times_in(matches),
         follow_links: is_used(matches, "follow-symlinks"),
         silent: is_silent(matches),
         verbose: is_used(matches, "verbose"),
@@ -227,10 +231,10 @@ fn has_quoting_style(text: Option<&str>) -> bool
 }
 
 fn has_read_only(text: Option<&str>) -> bool
-    ensures { result ≡ has_form is_read_only (text_of text.entry) }
+    ensures { result ≡ has_form (λ t. is_some (read_only_of t)) (text_of text.entry) }
 {
     match text {
-        Some(text) => is_read_only(text),
+        Some(text) => read_only_of(text).is_some(),
         None => true,
     }
 }
@@ -254,10 +258,10 @@ fn has_suffix_form(text: Option<&str>) -> bool
 }
 
 fn has_backup_kind(text: Option<&str>) -> bool
-    ensures { result ≡ has_form is_backup_kind (text_of text.entry) }
+    ensures { result ≡ has_form (λ t. is_some (backup_numbers_of t)) (text_of text.entry) }
 {
     match text {
-        Some(text) => is_backup_kind(text),
+        Some(text) => backup_numbers_of(text).is_some(),
         None => true,
     }
 }
@@ -323,6 +327,51 @@ fn reject_form_in(matches: &ArgMatches<'_>) -> Option<Form>
     match value_of(matches, "reject-format") {
         Some(text) => reject_form_of(text),
         None => None,
+    }
+}
+
+/// Whether words give the whole name of a backup.
+fn is_backup_named(matches: &ArgMatches<'_>) -> bool
+    ensures { result ≡ is_backup_named (rows_in matches.now) }
+{
+    value_of(matches, "suffix").is_some()
+        || value_of(matches, "prefix").is_some()
+        || value_of(matches, "basename-prefix").is_some()
+}
+
+/// Whether names of backups have numbers.
+fn numbers_in(matches: &ArgMatches<'_>) -> BackupNumbers
+    ensures { result ≡ numbers_in (rows_in matches.now) }
+{
+    if is_backup_named(matches) {
+        return BackupNumbers::Never;
+    }
+    match value_of(matches, "version-control") {
+        Some(text) => backup_numbers_of(text).unwrap_or(BackupNumbers::Never),
+        None => BackupNumbers::Never,
+    }
+}
+
+/// What is done about files that may not be written to.
+fn read_only_in(matches: &ArgMatches<'_>) -> ReadOnlyFiles
+    ensures { result ≡ read_only_in (rows_in matches.now) }
+{
+    match value_of(matches, "read-only") {
+        Some(text) => read_only_of(text).unwrap_or(ReadOnlyFiles::Told),
+        None => ReadOnlyFiles::Told,
+    }
+}
+
+/// When written files say that they were written.
+fn times_in(matches: &ArgMatches<'_>) -> FileTimes
+    ensures { result ≡ times_in (rows_in matches.now) }
+{
+    if is_used(matches, "set-utc") {
+        FileTimes::Utc
+    } else if is_used(matches, "set-time") {
+        FileTimes::Local
+    } else {
+        FileTimes::Written
     }
 }
 

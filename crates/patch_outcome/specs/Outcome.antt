@@ -20,7 +20,7 @@ use Rattle.say_text.specs.Messages.{not_deleting_line, failures_line}
 use Rattle.patch_task.specs.TargetEffects.{put_if, backup_effects, target_effects, moved_effects}
 use Rattle.patch_task.specs.Asking.{moves, renames, is_bare, acts_new, acts_deleted, takes_files, is_set, mode_asked}
 use Rattle.patch_task.specs.Kinds.{is_link}
-use Rattle.patch_task.specs.Turns.{Mark, PlainTurn, written, written_by, renamed_by, shown, shown_reject, total}
+use Rattle.patch_task.specs.Turns.{Mark, PlainTurn, written_by, renamed_by, shown, shown_reject, total}
 use Rattle.patch_task.specs.Outputs.{Tried, failed, some_placed, some_failed}
 use Rattle.patch_outcome.specs.HunksSaid.{change_said}
 

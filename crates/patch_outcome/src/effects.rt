@@ -13,7 +13,8 @@ ghost use Rattle.hunk_apply.specs.Written.{is_nothing};
 ghost use Rattle.reject_text.specs.Rejects.{AreHunks};
 ghost use Rattle.file_patch.specs.PlainPatch.{row_count};
 ghost use Rattle.patch_options.specs.PlainJob.{plain_options};
-ghost use Rattle.patch_task.specs.Asking.{renames};
+ghost use Rattle.patch_task.specs.Asking.{renames, mode_asked};
+ghost use Rattle.patch_task.specs.Times.{time_asked};
 ghost use Rattle.patch_task.specs.Outputs.{Tried, IsSession};
 ghost use Rattle.patch_outcome.specs.Outcome.{is_backup_due, is_backup_apart, is_made_bare, is_taken_away, is_old_kept, is_written, is_unwanted, is_always_put, is_removal, is_moving, keeps_old, written_effects, effects_of, wrote, has_rejects};
 ghost use Rattle.patch_task.specs.Making.{Makes, GoesQuietly, IsGone, IsTidy};
@@ -30,8 +31,8 @@ use hunk_core::{Side, Verdict};
 use outside::{Failed, Tree};
 use patch_options::Options;
 use patch_task::{
-    Made, RunFault, acts_deleted, acts_new, is_bare, is_link, is_same, keep_old, mode_asked,
-    renames, takes_files, write_moved, write_placed,
+    Made, Manner, RunFault, acts_deleted, acts_new, is_bare, is_link, is_same, keep_old,
+    mode_asked, renames, takes_files, time_asked, write_moved, write_placed,
 };
 use replace_file::Temp;
 
@@ -128,13 +129,25 @@ fn write_target<T: Tree>(
         Err(_) => return Err(RunFault::Tree),
     };
     let due = is_backup_due(turn, target, source, session);
-    let mode = mode_asked(&turn.task, side);
+    let manner = manner_asked(turn, side, session);
     if !moving {
         let removal = is_removal(turn, side, session);
-        return write_placed(&source.name, target, due, removal, mode, temp, tree);
+        return write_placed(&source.name, target, due, removal, manner, temp, tree);
     }
     let source_due = is_backup_due(turn, source, target, session);
-    write_moved(source, target, due, source_due, mode, temp, tree)
+    write_moved(source, target, due, source_due, manner, temp, tree)
+}
+
+/// How the file is put that is written.
+fn manner_asked(turn: &Turn<'_>, side: Side, session: &Session) -> Manner
+    requires turn { IsTurn turn.now }
+    ensures mode { result.mode ≡ mode_asked (plain_turn turn.now).options side (plain_turn turn.now).item.patch }
+    ensures time { result.time ≡ time_asked (plain_turn turn.now).options side (plain_turn turn.now).item.patch (not session.now.inexact) }
+{
+    Manner {
+        mode: mode_asked(&turn.task, side),
+        time: time_asked(&turn.task, side, !session.inexact),
+    }
 }
 
 /// Whether the source of a rename goes, which is there and isn't the target itself.

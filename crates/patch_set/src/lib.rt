@@ -20,7 +20,8 @@ pub use laws::{
     a_set_in_bytes, bare_headers_have_no_hunk, numbers_tell_targets_apart, one_view,
     what_was_read_stays,
 };
+pub use marks::are_asked;
 pub use names::{NamedPatches, bytes_in};
 pub use reading::{give_targets, read_set, whole_text};
-pub use set::{PatchSet, Row};
+pub use set::{Parts, PatchSet, Row, take_apart, untried};
 pub use skipped::BinaryChange;

@@ -158,6 +158,32 @@ impl PatchSet {
     }
 }
 
+/// A set that was taken apart.
+#[derive(Drop)]
+pub struct Parts {
+    pub text: Vec<u8>,
+    pub ways: Ways,
+    pub named: NamedPatches,
+}
+
+/// Takes a set apart. What was noted of its file patches is let go.
+pub fn take_apart(set: PatchSet) -> Parts
+    ensures text { result.text.items ≡ set.text }
+    ensures ways { result.ways ≡ set.ways }
+    ensures patches { result.named.patches.items ≡ set.patches }
+    ensures output { result.named.output ≡ set.output }
+    ensures whole { AreWhole result.ways result.text.items result.named.patches.items }
+{
+    Parts {
+        text: set.text,
+        ways: set.ways,
+        named: NamedPatches {
+            patches: set.patches,
+            output: set.output,
+        },
+    }
+}
+
 /// What a set has beside its text and its file patches.
 #[derive(Drop)]
 struct Notes {

@@ -10,8 +10,8 @@ use Rattle.outside.specs.Calls.{Becomes, IsThere, IsUntouched}
 use Rattle.outside.specs.Quiet.{IsQuiet, Effect, Holds, WorksOn, MakesEffect, HasMade, after, after_all}
 use Rattle.outside.specs.Quiet.Effect.{Put}
 use Rattle.outside.proofs.Names.{get-gone, get-gone_other, get-put_other}
-use Rattle.outside.proofs.Views.{told_back, rises_then, untouched_quiet}
-use Rattle.outside.proofs.Quiet.{lasting-only, works_none}
+use Rattle.outside.proofs.Views.{told_back, rises_then}
+use Rattle.outside.proofs.Quiet.{lasting-only}
 use Rattle.outside.proofs.Effects.{made_none, made_more, made_since, made_tells, made_tells_all, since_longer, tells_longer}
 use Rattle.replace_file.specs.Puts.{Puts}
 use Rattle.replace_file.proofs.Putting.{puts_makes, bytes_same}

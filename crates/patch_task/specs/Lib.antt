@@ -1,5 +1,6 @@
 pub mod Kinds
 pub mod Asking
+pub mod Times
 pub mod Turns
 pub mod Ready
 pub mod TaskView

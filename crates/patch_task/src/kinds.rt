@@ -10,6 +10,7 @@ ghost use Rattle.patch_task.specs.TaskView.{plain_task};
 use crate::task::Task;
 use header_record::{Header, is_executable};
 use hunk_core::{Side, after_prefix};
+use outside::TimeChange;
 use patch_set::bytes_in;
 
 /// What a mode is of.
@@ -50,6 +51,14 @@ pub enum Mode {
     Executable,
     /// It is a symbolic link.
     Link,
+}
+
+/// How the file is put that is written.
+#[derive(Clone, Copy)]
+pub struct Manner {
+    pub mode: Mode,
+    /// Its time, if it isn't that of the writing.
+    pub time: Option<TimeChange>,
 }
 
 /// What it is about.

@@ -10,12 +10,14 @@ mod names;
 mod placed;
 mod sources;
 mod task;
+mod times;
 
 pub use asking::{acts_deleted, acts_new, is_bare, renames, takes_files};
 pub use fault::RunFault;
-pub use kinds::{Mode, Subject, is_link, mode_asked, subject_of};
+pub use kinds::{Manner, Mode, Subject, is_link, mode_asked, subject_of};
 pub use moved::write_moved;
 pub use names::{chosen, shown, shown_reject, target_in, written, written_at};
 pub use placed::{Made, keep_old, write_placed};
 pub use sources::{is_same, is_source};
 pub use task::Task;
+pub use times::time_asked;

@@ -9,7 +9,7 @@ ghost use Rattle.patch_task.specs.Named.{IsNamed};
 ghost use Rattle.patch_task.specs.TargetEffects.{target_effects, moving_effects, moved_effects};
 
 use crate::fault::RunFault;
-use crate::kinds::Mode;
+use crate::kinds::Manner;
 use crate::placed::{Made, put_backup, swap_in, take_away};
 use file_patch::Target;
 use outside::Tree;
@@ -21,7 +21,7 @@ pub fn write_moved<T: Tree>(
     target: &Target,
     due: bool,
     source_due: bool,
-    mode: Mode,
+    manner: Manner,
     temp: Temp<'_>,
     tree: &mut T,
 ) -> Result<Made, RunFault>
@@ -45,7 +45,7 @@ pub fn write_moved<T: Tree>(
     ensures tidy { OnOk result (IsTidy (T.view tree.old) (T.view tree.new)) }
 {
     put_backup(target, due, tree)?;
-    move_in(source, target, source_due, mode, temp, tree)?;
+    move_in(source, target, source_due, manner, temp, tree)?;
     Ok(with_backups(due, source_due))
 }
 
@@ -65,7 +65,7 @@ fn move_in<T: Tree>(
     source: &Target,
     target: &Target,
     source_due: bool,
-    mode: Mode,
+    manner: Manner,
     temp: Temp<'_>,
     tree: &mut T,
 ) -> Result<(), RunFault>
@@ -83,14 +83,14 @@ fn move_in<T: Tree>(
     ensures gone { OnOk result (IsGone (T.view tree.new) target.now.temp) }
 {
     put_backup(source, source_due, tree)?;
-    supersede(source, target, mode, temp, tree)
+    supersede(source, target, manner, temp, tree)
 }
 
 /// Puts the temporary at the target, and takes the source away.
 fn supersede<T: Tree>(
     source: &Target,
     target: &Target,
-    mode: Mode,
+    manner: Manner,
     temp: Temp<'_>,
     tree: &mut T,
 ) -> Result<(), RunFault>
@@ -106,6 +106,6 @@ fn supersede<T: Tree>(
         → Makes (T.view tree.old) (T.view tree.new) result target.now.temp (λ f. target_effects false f target.now output ++ Effect.Remove source.now.name ∷ []) }
     ensures gone { OnOk result (IsGone (T.view tree.new) target.now.temp) }
 {
-    swap_in(temp, &source.name, target, mode, tree)?;
+    swap_in(temp, &source.name, target, manner, tree)?;
     take_away(source, tree)
 }

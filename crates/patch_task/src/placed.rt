@@ -11,7 +11,7 @@ ghost use Rattle.patch_task.specs.Named.{IsBeside, IsNamed};
 ghost use Rattle.patch_task.specs.TargetEffects.{backup_effects, target_effects};
 
 use crate::fault::RunFault;
-use crate::kinds::Mode;
+use crate::kinds::{Manner, Mode};
 use file_patch::Target;
 use outside::{Failed, Name, Tree};
 use replace_file::{Temp, copy_backup, put_begun, remove_name};
@@ -32,7 +32,7 @@ pub fn write_placed<T: Tree>(
     target: &Target,
     due: bool,
     removal: bool,
-    mode: Mode,
+    manner: Manner,
     temp: Temp<'_>,
     tree: &mut T,
 ) -> Result<Made, RunFault>
@@ -52,7 +52,7 @@ pub fn write_placed<T: Tree>(
     ensures tidy { OnOk result (IsTidy (T.view tree.old) (T.view tree.new)) }
 {
     put_backup(target, due, tree)?;
-    let wrote = put_target(temp, from, target, removal, mode, tree)?;
+    let wrote = put_target(temp, from, target, removal, manner, tree)?;
     Ok(with_backup(due, wrote))
 }
 
@@ -114,7 +114,7 @@ fn put_target<T: Tree>(
     from: &Name,
     target: &Target,
     removal: bool,
-    mode: Mode,
+    manner: Manner,
     tree: &mut T,
 ) -> Result<bool, RunFault>
     requires named { IsNamed target.now }
@@ -129,7 +129,7 @@ fn put_target<T: Tree>(
     if removal {
         erase(temp, target, tree)
     } else {
-        swap_in(temp, from, target, mode, tree)
+        swap_in(temp, from, target, manner, tree)
     }
 }
 
@@ -217,7 +217,7 @@ pub fn swap_in<T: Tree>(
     mut temp: Temp<'_>,
     from: &Name,
     target: &Target,
-    mode: Mode,
+    manner: Manner,
     tree: &mut T,
 ) -> Result<bool, RunFault>
     requires named { IsNamed target.now }
@@ -230,9 +230,28 @@ pub fn swap_in<T: Tree>(
     ensures keeps { OnOk result ((q : List ℕ) → q ≢ target.now.name → q ≢ target.now.temp → KeepsAt (T.view tree.old) (T.view tree.new) q) }
     ensures wrote { IfOk result (λ wrote. wrote ≡ true) }
 {
-    match set_mode(&mut temp, from, mode, tree) {
+    match set_manner(&mut temp, from, manner, tree) {
         Ok(()) => put_filled(temp, target, tree),
         Err(_) => Err(RunFault::Tree),
+    }
+}
+
+/// Says how the temporary's file is put.
+fn set_manner<T: Tree>(
+    temp: &mut Temp<'_>,
+    from: &Name,
+    manner: Manner,
+    tree: &mut T,
+) -> Result<(), Failed>
+    requires { IsThere (T.view tree.old) temp.old.name.now }
+    ensures name { temp.new.name.now ≡ temp.old.name.now }
+    ensures untouched { IsUntouched (T.view tree.old) (T.view tree.new) }
+    ensures cause { OnErr result (Rises (T.view tree.old) (T.view tree.new)) }
+{
+    set_mode(temp, from, manner.mode, tree)?;
+    match manner.time {
+        Some(change) => temp.set_time(tree, from, change),
+        None => Ok(()),
     }
 }
 

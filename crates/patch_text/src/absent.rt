@@ -5,7 +5,7 @@ ghost use Rattle.hunk_core.specs.PlainHunk.{hunks_of};
 ghost use Rattle.patch_header.specs.Steps.{HasPieces};
 ghost use Rattle.patch_header.specs.Values.{IsPieceOf};
 ghost use Rattle.file_patch.specs.PlainPatch.{bytes_in, header_of, change_of, IsLawfulChange};
-ghost use Rattle.file_patch.specs.Absent.{name_on, stamp_on, is_null, is_epoch, is_one_empty, is_empty_on, is_empty_file, is_said_absent, is_absent};
+ghost use Rattle.file_patch.specs.Absent.{name_on, stamp_on, is_null, is_epoch, is_near_zero, is_one_empty, is_empty_on, is_empty_file, is_said_absent, is_absent};
 ghost use Rattle.file_patch.specs.Actions.{is_new, is_deleted};
 ghost use Rattle.patch_text.specs.Patches.{patch_with};
 
@@ -30,9 +30,17 @@ fn is_epoch(stamp: Stamp) -> bool
     ensures { result ≡ is_epoch stamp }
 {
     match stamp {
-        Stamp::Instant(seconds) => seconds == 0,
+        Stamp::Known(time) if time.is_local => is_near_zero(time.seconds),
+        Stamp::Known(time) => time.seconds == 0,
         Stamp::Unknown => false,
     }
+}
+
+/// Whether these are seconds that a clock of some zone may show where that of UTC shows 0.
+fn is_near_zero(seconds: i64) -> bool
+    ensures { result ≡ is_near_zero seconds }
+{
+    -90_000 < seconds && seconds < 93_600
 }
 
 /// Whether there is one hunk, which has no line on this side.

@@ -173,7 +173,7 @@ impl<C: Scratch> Plan for PlanB<C> {
 
     ghost scratch_after = { λ size file before. option_map (λ _. pages size (lines file)) before };
 
-    ghost sized = { λ p. p.held.layout.sized };
+    ghost sized = { λ p. p.held.layout.sized.0 };
 
     fn take_file<T: Tree>(&mut self, tree: &mut T, name: &Name) -> Result<(), OpenFault> {
         self.take_empty();

@@ -7,7 +7,7 @@ use crate::refusing::refused;
 use crate::runner::Runner;
 use outside::{Sink, put_all};
 use patch_options::patch_usage;
-use program_words::{Telling, called_tool, told, tool_of, version_of, words_of};
+use program_words::{Telling, called_tool, told, tool_of, version_of, why_unbuilt, words_of};
 use run_answers::Why;
 use std::alloc::AllocError;
 use std::io;
@@ -54,6 +54,23 @@ fn do_asked<X: Runner>(
         Some(Telling::Version(of)) => tell(&mut outputs.out, version_of(rt.alloc(), of)),
         Some(Telling::Patch) => tell(&mut outputs.out, patch_usage(rt.alloc())),
         Some(Telling::Words(of)) => tell(&mut outputs.out, usage(rt.alloc(), of)),
+        None => do_words(rt, runner, tool, words, outputs),
+    }
+}
+
+/// Has the words carried out, unless they ask for what isn't built.
+fn do_words<X: Runner>(
+    rt: &HostRuntime,
+    runner: &X,
+    tool: &str,
+    words: &[String],
+    outputs: &mut Outputs,
+) -> io::Result<Why> {
+    match why_unbuilt(rt.alloc(), words) {
+        Some(why) => {
+            let _ = put_all(&mut outputs.err, why.as_bytes());
+            Ok(Why::Usage)
+        }
         None => run_over(rt, runner, tool, words, outputs),
     }
 }

@@ -1,7 +1,8 @@
 //! The lines behind the line of a run's answer, which help whoever called the program.
 
 use program_words::{
-    Ended, Lines, put_behind, put_long, put_patch, put_pattern, put_state, put_texts, put_usage,
+    Ended, Lines, put_before, put_behind, put_long, put_patch, put_pattern, put_state, put_texts,
+    put_usage,
 };
 use real_devices::{Disk, Input, Output, Pages, Passed};
 use run_answers::Why;
@@ -26,8 +27,31 @@ pub fn put_help<R: Files<File = File>, I: Read + Drop, O: Write + Drop>(
     pages: &Pages<'_, R>,
     out: &Output<O>,
 ) {
+    lines.put(tree.undated());
     put_taken(lines, tool, tree.taken());
     put_patch(lines, tool, why, tree.passed());
+    let is_ended = matches!(why, Why::Done | Why::Rejected);
+    if is_ended {
+        put_before(lines, tree);
+    }
+    put_of_why(lines, rt, tool, words, why, tree, input, pages, out);
+    if !is_ended {
+        put_before(lines, tree);
+    }
+}
+
+/// What helps with an answer.
+fn put_of_why<R: Files<File = File>, I: Read + Drop, O: Write + Drop>(
+    lines: &mut Lines,
+    rt: &R,
+    tool: &str,
+    words: &[String],
+    why: Why,
+    tree: &mut Disk<'_, R>,
+    input: &Input<I>,
+    pages: &Pages<'_, R>,
+    out: &Output<O>,
+) {
     match why {
         Why::Done | Why::Rejected | Why::Garbage => {
             let ended = Ended {

@@ -3,14 +3,19 @@
 use crate::cut::put_cut;
 use crate::emptied::put_emptied;
 use crate::line_ends::put_line_ends;
-use crate::lines::Lines;
+use crate::lines::{Lines, Part};
 use crate::modes::{Taking, put_modes};
 use crate::ranges::put_ranges;
 use crate::skipped::{put_skipped, put_stack_skipped};
+use crate::state::text_at;
 use patch_options::{Job, Options, read_words};
-use real_devices::{Heard, LineEnds, Passed};
+use real_devices::{Disk, Heard, LineEnds, Passed};
 use run_answers::Why;
+use std::fs::File;
 use std::rt::Files;
+
+/// No patch of a stack is longer.
+const LARGEST_PATCH: u32 = u32::MAX;
 
 /// What a run came to, what it said, and how the lines of its files end.
 #[derive(Clone, Copy)]
@@ -34,7 +39,7 @@ pub fn put_texts<R: Files>(
 ) {
     match tool {
         "patch" => put_of_words(lines, rt, words, ended, passed),
-        "patchstack" => put_of_stack(lines, rt, words, ended, passed),
+        "patchstack" => put_of_stack(lines, rt, ended, passed),
         "recountdiff" => put_emptied(lines, passed.front()),
         _ => {}
     }
@@ -87,17 +92,11 @@ fn put_taken(lines: &mut Lines, tool: &str, taking: Taking, passed: &Passed) {
     put_modes(lines, tool, taking, passed);
 }
 
-fn put_of_stack<R: Files>(
-    lines: &mut Lines,
-    rt: &R,
-    words: &[String],
-    ended: Ended<'_>,
-    passed: &Passed,
-) {
+fn put_of_stack<R: Files>(lines: &mut Lines, rt: &R, ended: Ended<'_>, passed: &Passed) {
     match ended.why {
-        Why::Done | Why::Garbage => put_pushed(lines, words, passed),
+        Why::Done | Why::Garbage => put_pushed(lines, passed),
         Why::Rejected => {
-            put_pushed(lines, words, passed);
+            put_pushed(lines, passed);
             put_line_ends(lines, "patchstack", ended, passed.front(), false);
             put_stack_skipped(lines, rt, ended.heard, passed);
         }
@@ -105,16 +104,34 @@ fn put_of_stack<R: Files>(
     }
 }
 
-/// What is said of a stack's patches, which are taken as with `-p1`. Nothing is where it pops.
-fn put_pushed(lines: &mut Lines, words: &[String], passed: &Passed) {
+/// What is said of a patch of a stack, which is taken as with `-p1`. Where it pops none goes by.
+fn put_pushed(lines: &mut Lines, passed: &Passed) {
     let taking = Taking {
         strip: Some(1),
         is_reversed: false,
     };
-    match words {
-        [_, operation] if matches!(operation.as_str(), "push") => {
-            put_taken(lines, "patchstack", taking, passed)
-        }
-        _ => {}
+    put_taken(lines, "patchstack", taking, passed);
+}
+
+/// The same of the patches that the commands of a stack before the last one took, each with the name of its file behind it.
+pub fn put_before<R: Files<File = File>>(lines: &mut Lines, tree: &mut Disk<'_, R>) {
+    let mut names = String::new(lines.alloc);
+    if names.push_str(tree.taken_before()).is_err() {
+        lines.cut();
+    }
+    for name in names.as_str().lines() {
+        put_one_before(lines, tree, name);
+    }
+}
+
+fn put_one_before<R: Files<File = File>>(lines: &mut Lines, tree: &mut Disk<'_, R>, name: &str) {
+    let text = text_at(lines, tree, name, LARGEST_PATCH);
+    let mut passed = Passed::new(lines.alloc, true);
+    passed.whole(&text);
+    let mut told = Lines::new(lines.alloc);
+    put_pushed(&mut told, &passed);
+    if !told.text().is_empty() {
+        lines.put_made(&told);
+        lines.put_said("patchstack", "that is #", Part::Text(name));
     }
 }

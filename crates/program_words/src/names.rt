@@ -106,6 +106,7 @@ pub fn given_in(front: &[u8], opening: u64) -> Given<'_> {
         is_copy: false,
         opening: &[],
     };
+    let mut git = None;
     let mut number = 0u64;
     for line in front.split(is_feed) {
         let line = bare(line);
@@ -115,8 +116,46 @@ pub fn given_in(front: &[u8], opening: u64) -> Given<'_> {
         }
         given = with_line(given, line, number, opening);
         given.is_copy = line.starts_with(b"copy from ") || (given.is_copy && goes_on(line));
+        if number < opening {
+            git = header_names(git, line);
+        }
     }
-    given
+    with_header(given, git)
+}
+
+/// The names of a git header that goes up to this line: its first line gives both, and lines of a rename or a copy one each.
+fn header_names<'a>(
+    git: Option<(&'a [u8], &'a [u8])>,
+    line: &'a [u8],
+) -> Option<(&'a [u8], &'a [u8])> {
+    if let Some(names) = line.strip_prefix(b"diff --git ") {
+        return Some(both_names(names));
+    }
+    if is_of_header(line) || is_of_made(line) {
+        git
+    } else {
+        None
+    }
+}
+
+/// The same where no header lines stand in front of the opening, and a git header does: its names are the file patch's.
+fn with_header<'a>(given: Given<'a>, git: Option<(&'a [u8], &'a [u8])>) -> Given<'a> {
+    match git {
+        Some((old, new)) if given.old.is_none() && given.new.is_none() => Given {
+            old: Some(old),
+            new: Some(new),
+            ..given
+        },
+        _ => given,
+    }
+}
+
+/// Whether the line goes on with the git header of a file that is made, taken away or changed.
+fn is_of_made(line: &[u8]) -> bool {
+    line.starts_with(b"index ")
+        || line.starts_with(b"new file mode ")
+        || line.starts_with(b"deleted file mode ")
+        || line.starts_with(b"dissimilarity index ")
 }
 
 /// Whether the line goes on with a git header.

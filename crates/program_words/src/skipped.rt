@@ -6,7 +6,7 @@ use crate::places::below;
 use outside::Name;
 use patch_options::Options;
 use real_devices::{Heard, Passed, missing_text, unreached_text};
-use std::alloc::Global;
+use std::alloc::{AllocError, Global};
 use std::rt::Files;
 
 /// Where the names stand for which no file was found, for a patch of a stack.
@@ -20,6 +20,9 @@ const NO_REJECTS: &str =
 /// Why a copy isn't undone.
 const NO_WAY_BACK: &str =
     "the file patch at input line # is a copy, and -R takes none back: what it made can't be told from a file that was there";
+
+/// How many slashes are stripped at most where it is tried with which `-p` a file would be found.
+const MOST_SLASHES: u32 = 16;
 
 /// Why no file was found for a patch of a stack, and that it keeps no reject files.
 pub fn put_stack_skipped<R: Files>(lines: &mut Lines, rt: &R, heard: Heard, passed: &Passed) {
@@ -41,10 +44,11 @@ fn put_stack_unfound<R: Files>(lines: &mut Lines, rt: &R, front: &[u8], line: u6
             is_posix: false,
             is_reversed: false,
         };
-        if !put_unreached(lines, rt, "patchstack", &None, reading, given) {
+        let is_unreached = put_unreached(lines, rt, "patchstack", &None, reading, given);
+        put_names(lines, "patchstack", reading, given);
+        if !is_unreached {
             lines.put_said("patchstack", NO_FILE, Part::Number(line));
         }
-        put_names(lines, "patchstack", reading, given);
     }
 }
 
@@ -77,10 +81,12 @@ fn put_unfound<R: Files>(lines: &mut Lines, rt: &R, options: &Options, front: &[
             is_posix: options.posix,
             is_reversed: options.reverse,
         };
-        if !put_unreached(lines, rt, "patch", &options.dir, reading, given) {
-            put_unnamed(lines, options, line);
-        }
+        let is_unreached = put_unreached(lines, rt, "patch", &options.dir, reading, given);
         put_names(lines, "patch", reading, given);
+        if !is_unreached {
+            let fitting = fitting_strip(lines.alloc, rt, &options.dir, reading, given);
+            put_unnamed(lines, options, line, fitting);
+        }
     }
 }
 
@@ -116,14 +122,51 @@ fn unreached_below<R: Files>(
     dir: &Option<Name>,
     name: &Name,
 ) -> Option<String> {
-    let below = match dir {
-        Some(dir) => name.below(alloc, dir),
-        None => name.copy(alloc),
-    };
-    match below {
+    match in_directory(alloc, dir, name) {
         Ok(name) => unreached_text(alloc, rt, &name).unwrap_or(None),
         Err(_) => None,
     }
+}
+
+fn in_directory(alloc: Global, dir: &Option<Name>, name: &Name) -> Result<Name, AllocError> {
+    match dir {
+        Some(dir) => name.below(alloc, dir),
+        None => name.copy(alloc),
+    }
+}
+
+/// How many slashes are to be stripped so that one of the names is a file's, if any number does.
+fn fitting_strip<R: Files>(
+    alloc: Global,
+    rt: &R,
+    dir: &Option<Name>,
+    reading: Reading,
+    given: Given<'_>,
+) -> Option<u32> {
+    for slashes in 0..MOST_SLASHES {
+        let tried = Reading {
+            strip: Some(slashes),
+            ..reading
+        };
+        if let Ok(names) = looked_for(alloc, given, tried) {
+            if is_one_there(alloc, rt, dir, &names) {
+                return Some(slashes);
+            }
+        }
+    }
+    None
+}
+
+/// Whether a file has one of the names below the directory.
+fn is_one_there<R: Files>(alloc: Global, rt: &R, dir: &Option<Name>, names: &[Name]) -> bool {
+    for name in names {
+        if let Ok(name) = in_directory(alloc, dir, name) {
+            if let Ok(None) = missing_text(alloc, rt, &name) {
+                return true;
+            }
+        }
+    }
+    false
 }
 
 fn put_operand<R: Files>(lines: &mut Lines, rt: &R, options: &Options, file: &Name) {
@@ -141,8 +184,8 @@ fn put_missing<R: Files>(lines: &mut Lines, rt: &R, name: &Name) {
     }
 }
 
-/// Where the files are in which none was found, and what may be wrong with the file, or with the words.
-fn put_unnamed(lines: &mut Lines, options: &Options, line: u64) {
+/// Where the files are in which none was found, and with which `-p` there is one, or else what may be wrong with the words.
+fn put_unnamed(lines: &mut Lines, options: &Options, line: u64, fitting: Option<u32>) {
     let (before, place) = match &options.dir {
         Some(dir) => ("in ", dir.text()),
         None => ("", "here"),
@@ -151,8 +194,13 @@ fn put_unnamed(lines: &mut Lines, options: &Options, line: u64) {
         "patch: the file patch at input line # names no file ## (a link on the way isn't followed); ",
         &[Part::Number(line), Part::Text(before), Part::Text(place)],
     );
-    match options.strip {
-        Some(strip) => lines.put_parts("is -p# right?\n", &[Part::Number(u64::from(strip))]),
-        None => lines.put("is -p1 missing, or the file's name?\n"),
+    match (fitting, options.strip) {
+        (Some(strip), _) => {
+            lines.put_parts("with -p# there is one\n", &[Part::Number(u64::from(strip))])
+        }
+        (None, Some(strip)) => {
+            lines.put_parts("is -p# right?\n", &[Part::Number(u64::from(strip))])
+        }
+        (None, None) => lines.put("is -p1 missing, or the file's name?\n"),
     }
 }

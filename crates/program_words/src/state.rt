@@ -12,6 +12,9 @@ const SERIES: &str = "patches/series";
 
 const APPLIED: &str = ".pc/applied";
 
+/// The longest file that is looked at.
+const LARGEST: u32 = 1_048_576;
+
 /// The most patches that a stack may have.
 const MOST: u64 = 9_999;
 
@@ -24,12 +27,12 @@ pub fn put_state<R: Files<File = File>>(
 ) {
     match file {
         StateFile::Series => {
-            let series = text_at(lines, tree, SERIES);
+            let series = text_at(lines, tree, SERIES, LARGEST);
             put_series(lines, tool, &series);
         }
         StateFile::Count => {
-            let applied = text_at(lines, tree, APPLIED);
-            let series = text_at(lines, tree, SERIES);
+            let applied = text_at(lines, tree, APPLIED, LARGEST);
+            let series = text_at(lines, tree, SERIES, LARGEST);
             put_count(lines, tool, &applied, &series);
         }
         StateFile::Save => { lines.put_line(tool, ".pc: a save is missing or isn't of its form") }
@@ -42,15 +45,16 @@ fn put_series(lines: &mut Lines, tool: &str, series: &[u8]) {
     lines.put("each line must be a name below patches/\n");
 }
 
-/// The text of a file of the stack, or nothing where it can't be read.
-fn text_at<R: Files<File = File>>(
+/// The text of a file of the stack of up to so many bytes, or nothing where it can't be read.
+pub fn text_at<R: Files<File = File>>(
     lines: &mut Lines,
     tree: &mut Disk<'_, R>,
     name: &str,
+    most: u32,
 ) -> Vec<u8> {
     match Name::new(lines.alloc, name.as_bytes()) {
         Ok(name) => tree
-            .text(lines.alloc, &name)
+            .text(lines.alloc, &name, most)
             .unwrap_or(Vec::new(lines.alloc)),
         Err(_) => {
             lines.cut();

@@ -41,9 +41,14 @@ fn is_meant(word: &Word, option: &str) -> bool {
     }
 }
 
+/// The values of `--only-match`.
+const SIDES: &str = "rem|add|mod|all";
+
 /// What stands for the value in the text that tells the words, in words of its own where that is a letter or a name.
 fn value_of(row: &'static Word) -> (&'static str, &'static str) {
-    let shown = match row.shown.rsplit_once('=') {
+    let behind = row.shown.rsplit_once('=').or(row.shown.rsplit_once(' '));
+    let shown = match behind {
+        Some((_, "WHAT")) => SIDES,
         Some((_, value)) => value,
         None => row.shown,
     };

@@ -16,7 +16,7 @@ use Rattle.patch_header.specs.Values.{blanks, is_blank, is_white, word_length, s
 use Rattle.patch_header.specs.Steps.{header_with, bare_with, header_at, seen_for}
 use Rattle.header_record.specs.declared.Action.{Action}
 use Rattle.header_record.specs.declared.Header.{Header}
-use Rattle.patch_header.specs.declared.bare.Pair.{Pair}
+use Rattle.patch_header.specs.declared.git_names.Pair.{Pair}
 use Rattle.patch_header.specs.declared.openings.Stop.{Stop}
 use Rattle.patch_header.specs.declared.openings.Stop.TheVariants.{Opening, Binary, Bare}
 use Rattle.patch_header.specs.declared.region.Tail.{Tail}

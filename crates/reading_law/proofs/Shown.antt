@@ -23,7 +23,7 @@ use Rattle.patch_header.specs.Content.{content}
 use Rattle.patch_header.specs.GitRows.{both_names, git_name, seen_by}
 use Rattle.patch_header.specs.Region.{Row, first_some, last_tail, rows, seen_in, tail_of}
 use Rattle.patch_header.specs.Values.{behind_name, blanks, bytes_of, first, index_in, is_blank, bare_length, name_in, name_length, span_at, stamp_in, unblanked}
-use Rattle.patch_header.specs.declared.bare.Pair.{Pair}
+use Rattle.patch_header.specs.declared.git_names.Pair.{Pair}
 use Rattle.patch_header.specs.declared.region.Tail.{Tail}
 use Rattle.file_patch.specs.PlainPatch.{bytes_in}
 use Rattle.flip_patch.specs.HeaderText.{first_line, named_line, rest_of_line}

@@ -1,6 +1,6 @@
 -- The files that a made file patch can be meant for have no names of temporaries.
 use Rattle.std.proofs.Common.{◌≡◌, ◌≢◌, ℕ, zero, suc, ◌+◌, ◌-◌, ◌<◌, ◌^◌, Bool, true, false, cond, not, eqb, ◌||◌, List, [], ◌∷◌, ◌++◌, length, map, drop, get_or, Option, None, Some, refl, sym, ap, subst, ◌∙◌, arith, append_assoc, length-append, length-drop}
-use Rattle.std.specs.Prelude.{codes, find, is_none, unwrap_or}
+use Rattle.std.specs.Prelude.{codes, find, is_none, is_some, unwrap_or}
 use Rattle.std.specs.Cmp.Lexicographic.{same_text}
 use Rattle.std.specs.List.{list_any, range_with_len}
 use Rattle.std.specs.Option.{option_map_or, option_to_list}
@@ -21,7 +21,7 @@ use Rattle.patch_options.specs.PlainJob.{PlainOptions}
 use Rattle.patch_gen.specs.Patches.{file_name}
 use Rattle.file_patch.specs.Candidates.{candidates, header_names, index_beside, index_names, lawful_name}
 use Rattle.file_patch.specs.Stripped.{behind_slashes, stripped}
-use Rattle.file_patch.specs.Targets.{backup_end, below, fronted, is_reserved, target_of}
+use Rattle.file_patch.specs.Targets.{backup_end, backup_front, backup_name, based, below, fronted, is_fronted, is_reserved, target_of}
 use Rattle.patch_set.specs.Named.{names_of, target_in, targets_of}
 use Rattle.patch_set.specs.Refusals.{has_reserved, reserves_output}
 use Rattle.reading_law.specs.Unnumbered.{unnumbered, unnumbered_header}
@@ -82,10 +82,13 @@ module _ (o : PlainOptions) (takes : TakesNames o) where
   unreserved i number =
       let name : List ℕ = file_name i in
       let own : is_temp (below o.dir name) ≡ false = ap is_temp (stays name) ∙ file_lasting i in
-      let backup_is : fronted o.prefix name ++ backup_end o.prefix o.suffix ≡ name ++ codes ".orig" =
-      ap (λ p. fronted p name ++ backup_end p o.suffix) takes.prefix ∙ ap (λ s. name ++ backup_end None s) takes.suffix in
-      let backup : is_temp (below o.dir (fronted o.prefix name ++ backup_end o.prefix o.suffix)) ≡ false =
-      ap is_temp (stays (fronted o.prefix name ++ backup_end o.prefix o.suffix) ∙ backup_is) ∙ backup-lasting name in
+      let front_is : backup_front o name ≡ name =
+      ap (λ p. fronted p (based o.base_prefix name)) takes.prefix ∙ ap (λ b. based b name) takes.base_prefix in
+      let front_none : is_fronted o ≡ false = ap (λ p. is_some p || is_some o.base_prefix) takes.prefix ∙ ap is_some takes.base_prefix in
+      let backup_is : backup_name o name ≡ name ++ codes ".orig" =
+      ap (λ n. n ++ backup_end (is_fronted o) o.suffix) front_is ∙ ap (λ b. name ++ backup_end b o.suffix) front_none ∙ ap (λ s. name ++ backup_end false s) takes.suffix in
+      let backup : is_temp (below o.dir (backup_name o name)) ≡ false =
+      ap is_temp (stays (backup_name o name) ∙ backup_is) ∙ backup-lasting name in
       let reject : is_temp (below o.dir (unwrap_or o.reject (name ++ codes ".rej"))) ≡ false =
       ap is_temp (stays (unwrap_or o.reject (name ++ codes ".rej")) ∙ ap (λ r. unwrap_or r (name ++ codes ".rej")) takes.reject) ∙ reject-lasting name in
       rw (own, backup, reject) refl

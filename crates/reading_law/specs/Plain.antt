@@ -11,5 +11,6 @@ pub record TakesNames (o : PlainOptions) : Type 0 where
   pub output : o.output ≡ None
   pub reject : o.reject ≡ None
   pub prefix : o.prefix ≡ None
+  pub base_prefix : o.base_prefix ≡ None
   pub suffix : o.suffix ≡ None
   pub reverse : o.reverse ≡ false

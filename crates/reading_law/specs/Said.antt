@@ -13,7 +13,7 @@ use Rattle.patch_header.specs.Region.{rows, first_some, later}
 use Rattle.patch_header.specs.Values.{unblanked, name_length, index_length, word_length, behind_name}
 use Rattle.header_record.specs.declared.Action.{Action}
 use Rattle.header_record.specs.declared.Action.TheVariants.{Plain, New, Deleted, Rename, Copy}
-use Rattle.patch_header.specs.declared.bare.Pair.{Pair}
+use Rattle.patch_header.specs.declared.git_names.Pair.{Pair}
 use Rattle.patch_header.specs.declared.openings.Stop.{Stop}
 use Rattle.patch_header.specs.declared.openings.Stop.TheVariants.{Opening, Binary, Bare}
 use Rattle.patch_header.specs.declared.ways.Ways.{Ways}

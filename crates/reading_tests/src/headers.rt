@@ -1,5 +1,6 @@
 //! What the lines in front of a file patch say, row by row; git headers are read in rows of `git`.
 
+use crate::stamps::words;
 use header_record::{Header, is_executable};
 use hunk_core::Form;
 use line_list::Span;
@@ -8,30 +9,30 @@ use std::alloc::{AllocError, Global};
 
 /// The form that is asked for, `-` or `git`; a text; and the form of the opening, its line and the line of the names; the old and
 /// the new name, `Index:` and `Prereq:`; the stamps; what git says of the file, whether the header is bare, and the names that
-/// the file goes from and to; and the modes, where git tells one. Instants are those of `date -u +%s`.
+/// the file goes from and to; and the modes, where git tells one. Seconds are those of `date -u +%s`.
 const ROWS: &[&str] = &[
     // A tab ends a name that holds a space.
-    "-=diff --git a/my file b/my file\nindex 1f2..3e4 100644\n--- a/my file\t2002-02-21 23:30:39.942229878 -0800\n+++ b/my file\t2002-02-21 23:30:50 -0800\n@@ -1 +1 @@\n-a\n+b\n=Unified 5 3; [a/my file] [b/my file] [] []; Instant(1014363039) Instant(1014363050); Plain false [] []",
+    "-=diff --git a/my file b/my file\nindex 1f2..3e4 100644\n--- a/my file\t2002-02-21 23:30:39.942229878 -0800\n+++ b/my file\t2002-02-21 23:30:50 -0800\n@@ -1 +1 @@\n-a\n+b\n=Unified 5 3; [a/my file] [b/my file] [] []; 1014363039 and 942229878, 1014363050; Plain false [] []",
     // The last line of each kind counts.
-    "-=--- first\n+++ first\nIndex: first\nPrereq: first\n--- f Thu Feb 21 23:30:39 2002\nPrereq:\t 1.2\rx\nIndex:g\n+++  \t h\nIndex: i j\n@@ -1,2 +1 @@ x\n=Unified 10 5; [f] [h] [i j] [1.2]; Instant(1014334239) Unknown; Plain false [] []",
+    "-=--- first\n+++ first\nIndex: first\nPrereq: first\n--- f Thu Feb 21 23:30:39 2002\nPrereq:\t 1.2\rx\nIndex:g\n+++  \t h\nIndex: i j\n@@ -1,2 +1 @@ x\n=Unified 10 5; [f] [h] [i j] [1.2]; 1014334239 local, Unknown; Plain false [] []",
     // A name in quotes ends with them, and a stamp may follow; one whose quotes end nowhere is none.
-    "-=Index: \"i \\\" j\" k\n--- \"a\\303\\266 b\"\t1970-01-01 00:00:00 +0000\n+++ \"g\\n\n@@ -1 +1 @@\n=Unified 4 2; [\"a\\303\\266 b\"] [] [\"i \\\" j\"] []; Instant(0) Unknown; Plain false [] []",
+    "-=Index: \"i \\\" j\" k\n--- \"a\\303\\266 b\"\t1970-01-01 00:00:00 +0000\n+++ \"g\\n\n@@ -1 +1 @@\n=Unified 4 2; [\"a\\303\\266 b\"] [] [\"i \\\" j\"] []; 0, Unknown; Plain false [] []",
     // A last line with an empty name tells none.
-    "-=--- f\n--- \t\nIndex: f\nIndex:\nPrereq: \r\n@@ -1 +1 @@\n=Unified 6 6; [] [] [] []; Unknown Unknown; Plain false [] []",
-    "-=+++ u\n*** old\tThu Feb 21 23:30:39 2002\n--- new\t1970-01-01 00:00:00 +0000\n***************\n*** 1,3 ****\n  a\n=Context 4 2; [old] [new] [] []; Instant(1014334239) Instant(0); Plain false [] []",
-    "-=*** x\n--- y\n+++ z\nIndex: f\n1d0\n< a\n=Normal 5 5; [] [] [f] []; Unknown Unknown; Plain false [] []",
+    "-=--- f\n--- \t\nIndex: f\nIndex:\nPrereq: \r\n@@ -1 +1 @@\n=Unified 6 6; [] [] [] []; Unknown, Unknown; Plain false [] []",
+    "-=+++ u\n*** old\tThu Feb 21 23:30:39 2002\n--- new\t1970-01-01 00:00:00 +0000\n***************\n*** 1,3 ****\n  a\n=Context 4 2; [old] [new] [] []; 1014334239 local, 0; Plain false [] []",
+    "-=*** x\n--- y\n+++ z\nIndex: f\n1d0\n< a\n=Normal 5 5; [] [] [f] []; Unknown, Unknown; Plain false [] []",
     // A command that text follows opens a script only before a dot, unless scripts alone are asked for.
-    "-=Index: f\n3a\nx\n.\n=Ed 2 2; [] [] [f] []; Unknown Unknown; Plain false [] []",
-    "-=3a\nx\n1,2d\n=Ed 3 3; [] [] [] []; Unknown Unknown; Plain false [] []",
-    "Ed=3a\nx\n1,2d\n=Ed 1 1; [] [] [] []; Unknown Unknown; Plain false [] []",
+    "-=Index: f\n3a\nx\n.\n=Ed 2 2; [] [] [f] []; Unknown, Unknown; Plain false [] []",
+    "-=3a\nx\n1,2d\n=Ed 3 3; [] [] [] []; Unknown, Unknown; Plain false [] []",
+    "Ed=3a\nx\n1,2d\n=Ed 1 1; [] [] [] []; Unknown, Unknown; Plain false [] []",
     // The openings of forms that aren't asked for are as any other line.
-    "Normal=--- f\n@@ -1 +1 @@\n3d\n1c1\n< a\n---\n> b\n=Normal 4 4; [] [] [] []; Unknown Unknown; Plain false [] []",
+    "Normal=--- f\n@@ -1 +1 @@\n3d\n1c1\n< a\n---\n> b\n=Normal 4 4; [] [] [] []; Unknown, Unknown; Plain false [] []",
     // A line of asterisks alone opens nothing, nor does a command alone.
-    "-=***************\n1c1\nx\n@@ -a\n@@ -1\n=Unified 5 5; [] [] [] []; Unknown Unknown; Plain false [] []",
+    "-=***************\n1c1\nx\n@@ -a\n@@ -1\n=Unified 5 5; [] [] [] []; Unknown, Unknown; Plain false [] []",
     // The last line may lack its line feed.
-    "-=--- f\n+++ g\n@@ -1=Unified 3 1; [f] [g] [] []; Unknown Unknown; Plain false [] []",
+    "-=--- f\n+++ g\n@@ -1=Unified 3 1; [f] [g] [] []; Unknown, Unknown; Plain false [] []",
     // What is known of dots holds from the opening on.
-    "-=1a\nx\n@@ -1 +1 @@\n=Unified 3 3; [] [] [] []; Unknown Unknown; Plain false [] []",
+    "-=1a\nx\n@@ -1 +1 @@\n=Unified 3 3; [] [] [] []; Unknown, Unknown; Plain false [] []",
     "-=--- f\nGIT binary patch\n@@ -1 +1 @@\n=Binary { line: 2 }",
     "Context=x\ny\nBinary files a/f and b/f differ\n=Binary { line: 3 }",
     "-=Binary files a/f and b/f differ.\n=End",
@@ -40,30 +41,30 @@ const ROWS: &[&str] = &[
     "Context=@@ -1 +1 @@\n-a\n+b\n=End",
     "-==End",
     // An empty file that is new has no hunk; its names stand in its git line.
-    "git=diff --git a/e b/e\nnew file mode 100644\nindex 0000000..e69de29\n=Unified 1 1; [a/e] [b/e] [] []; Unknown Unknown; New true [] []; [] [100644]",
-    "git=diff --git f f\nnew file mode 100644\n=Unified 1 1; [f] [f] [] []; Unknown Unknown; New true [] []; [] [100644]",
-    "git=diff --git a/x \"b/e f\" \ndeleted file mode 100644\n=Unified 1 1; [a/x] [\"b/e f\"] [] []; Unknown Unknown; Deleted true [] []; [100644] []",
+    "git=diff --git a/e b/e\nnew file mode 100644\nindex 0000000..e69de29\n=Unified 1 1; [a/e] [b/e] [] []; Unknown, Unknown; New true [] []; [] [100644]",
+    "git=diff --git f f\nnew file mode 100644\n=Unified 1 1; [f] [f] [] []; Unknown, Unknown; New true [] []; [] [100644]",
+    "git=diff --git a/x \"b/e f\" \ndeleted file mode 100644\n=Unified 1 1; [a/x] [\"b/e f\"] [] []; Unknown, Unknown; Deleted true [] []; [100644] []",
     // Halves that differ behind their first slash are no names.
-    "git=x\ndiff --git a/x b/y\nsimilarity index 100%\nrename from x\nrename to y\n=Unified 2 2; [] [] [] []; Unknown Unknown; Rename true [x] [y]",
-    "git=diff --git a/x b/y\nsimilarity index 90%\nrename from x\nrename to y\n--- a/x\n+++ b/y\n@@ -1 +1 @@\n-a\n+b\n=Unified 7 5; [a/x] [b/y] [] []; Unknown Unknown; Rename false [x] [y]",
+    "git=x\ndiff --git a/x b/y\nsimilarity index 100%\nrename from x\nrename to y\n=Unified 2 2; [] [] [] []; Unknown, Unknown; Rename true [x] [y]",
+    "git=diff --git a/x b/y\nsimilarity index 90%\nrename from x\nrename to y\n--- a/x\n+++ b/y\n@@ -1 +1 @@\n-a\n+b\n=Unified 7 5; [a/x] [b/y] [] []; Unknown, Unknown; Rename false [x] [y]",
     // Where git headers aren't read their lines say nothing.
-    "-=diff --git a/x b/y\nsimilarity index 90%\nrename from x\nrename to y\n--- a/x\n+++ b/y\n@@ -1 +1 @@\n-a\n+b\n=Unified 7 5; [a/x] [b/y] [] []; Unknown Unknown; Plain false [] []",
+    "-=diff --git a/x b/y\nsimilarity index 90%\nrename from x\nrename to y\n--- a/x\n+++ b/y\n@@ -1 +1 @@\n-a\n+b\n=Unified 7 5; [a/x] [b/y] [] []; Unknown, Unknown; Plain false [] []",
     // The last of equal lines counts, and a name goes up to the end of its line.
-    "git=diff --git a/f b/f\ncopy from a\ncopy from b \tc\ncopy to d\n=Unified 1 1; [a/f] [b/f] [] []; Unknown Unknown; Copy true [b \tc] [d]",
+    "git=diff --git a/f b/f\ncopy from a\ncopy from b \tc\ncopy to d\n=Unified 1 1; [a/f] [b/f] [] []; Unknown, Unknown; Copy true [b \tc] [d]",
     // A file that is new isn't renamed.
-    "git=diff --git a/f b/f\nrename from a\nrename to b\ndeleted file mode 100644\nnew file mode 100644\n=Unified 1 1; [a/f] [b/f] [] []; Unknown Unknown; New true [] []; [100644] [100644]",
+    "git=diff --git a/f b/f\nrename from a\nrename to b\ndeleted file mode 100644\nnew file mode 100644\n=Unified 1 1; [a/f] [b/f] [] []; Unknown, Unknown; New true [] []; [100644] [100644]",
     // The last line that tells a mode counts, in front of hunks too.
-    "git=diff --git a/f b/f\nold mode 100755\nnew mode \nnew file mode 120000\nold mode 100644\nnew mode 100711\n--- a/f\n+++ b/f\n@@ -1 +1 @@\n-a\n+b\n=Unified 9 7; [a/f] [b/f] [] []; Unknown Unknown; New false [] []; [100644] [100711]",
+    "git=diff --git a/f b/f\nold mode 100755\nnew mode \nnew file mode 120000\nold mode 100644\nnew mode 100711\n--- a/f\n+++ b/f\n@@ -1 +1 @@\n-a\n+b\n=Unified 9 7; [a/f] [b/f] [] []; Unknown, Unknown; New false [] []; [100644] [100711]",
     // A git header directly in front of hunks names the file, and no line in front of it does.
-    "git=Index: x\n--- x\n+++ x\ndiff --git a/f b/f\nold mode 100644\nnew mode 100755\n@@ -1 +1 @@\n-a\n+b\n=Unified 7 7; [] [] [b/f] []; Unknown Unknown; Plain false [] []; [100644] [100755]",
-    "git=diff --git a/my f b/my f\nindex 1..2 100644\n@@ -1 +1 @@\n-a\n+b\n=Unified 3 3; [] [] [b/my f] []; Unknown Unknown; Plain false [] []",
-    "-=--- x\ndiff --git a/f b/f\nindex 1..2 100644\n@@ -1 +1 @@\n-a\n+b\n=Unified 4 1; [x] [] [] []; Unknown Unknown; Plain false [] []",
-    "git=diff --git a/f b/f\nnew file mode 100644\n@@ -0,0 +1 @@\n+a\n=Unified 3 3; [] [] [b/f] []; Unknown Unknown; New false [] []; [] [100644]",
-    "git=diff --git a/x b/y\nsimilarity index 90%\nrename from x\nrename to y\n@@ -1 +1 @@\n-a\n+b\n=Unified 5 5; [] [] [] []; Unknown Unknown; Rename false [x] [y]",
+    "git=Index: x\n--- x\n+++ x\ndiff --git a/f b/f\nold mode 100644\nnew mode 100755\n@@ -1 +1 @@\n-a\n+b\n=Unified 7 7; [] [] [b/f] []; Unknown, Unknown; Plain false [] []; [100644] [100755]",
+    "git=diff --git a/my f b/my f\nindex 1..2 100644\n@@ -1 +1 @@\n-a\n+b\n=Unified 3 3; [] [] [b/my f] []; Unknown, Unknown; Plain false [] []",
+    "-=--- x\ndiff --git a/f b/f\nindex 1..2 100644\n@@ -1 +1 @@\n-a\n+b\n=Unified 4 1; [x] [] [] []; Unknown, Unknown; Plain false [] []",
+    "git=diff --git a/f b/f\nnew file mode 100644\n@@ -0,0 +1 @@\n+a\n=Unified 3 3; [] [] [b/f] []; Unknown, Unknown; New false [] []; [] [100644]",
+    "git=diff --git a/x b/y\nsimilarity index 90%\nrename from x\nrename to y\n@@ -1 +1 @@\n-a\n+b\n=Unified 5 5; [] [] [] []; Unknown, Unknown; Rename false [x] [y]",
     // Without a hunk directly behind them the lines of both names lead nothing.
-    "git=diff --git a/f b/f\nnew mode 100755\n--- a/f\n+++ b/f\n\n@@ -1 +1 @@\n=Unified 6 3; [a/f] [b/f] [] []; Unknown Unknown; Plain false [] []",
+    "git=diff --git a/f b/f\nnew mode 100755\n--- a/f\n+++ b/f\n\n@@ -1 +1 @@\n=Unified 6 3; [a/f] [b/f] [] []; Unknown, Unknown; Plain false [] []",
     // Both modes alone are a file patch, one of them is ordinary text.
-    "git=diff --git a/f b/f\nold mode 100644\nnew mode 100755\n=Unified 1 1; [a/f] [b/f] [] []; Unknown Unknown; Plain true [] []; [100644] [100755]",
+    "git=diff --git a/f b/f\nold mode 100644\nnew mode 100755\n=Unified 1 1; [a/f] [b/f] [] []; Unknown, Unknown; Plain true [] []; [100644] [100755]",
     "git=diff --git a/f b/f\nold mode 100644\nindex 1..2\n=End",
     "git=diff --git a/f b/f\n\nnew file mode 100644\n=End",
     "-=diff --git a/e b/e\nnew file mode 100644\n=End",
@@ -101,7 +102,9 @@ fn names(alloc: Global, text: &str, header: Header) -> Result<String, AllocError
 }
 
 fn stamps(alloc: Global, header: Header) -> Result<String, AllocError> {
-    format!(in alloc; " {:?} {:?}", header.old_stamp, header.new_stamp)
+    let old = words(alloc, header.old_stamp)?;
+    let new = words(alloc, header.new_stamp)?;
+    format!(in alloc; " {old}, {new}")
 }
 
 fn git(alloc: Global, text: &str, header: Header) -> Result<String, AllocError> {

@@ -4,15 +4,12 @@ ghost use Rattle.outside.specs.Silent.{silent_tree};
 use crate::faults::Faults;
 use crate::line_ends::LineEnds;
 use crate::passed::Passed;
-use outside::{Failed, Name, Tree};
+use outside::{Failed, Name, TimeChange, Tree};
 use real_files::{Kind, OpenFiles, Path, Syncs, Trouble};
 use std::alloc::{AllocError, Global};
 use std::fs::File;
 use std::io;
 use std::rt::{Files, Stdout};
-
-/// The longest file that is read for a line behind an answer.
-const LARGEST_TEXT: u64 = 1_048_576;
 
 /// What the words of a run say of its tree.
 #[derive(Drop)]
@@ -53,6 +50,8 @@ struct Seen {
     places: Places,
     passed: Passed,
     ends: LineEnds,
+    /// The names of the patch texts of a stack's commands before this one.
+    before: String,
 }
 
 impl<'r, R: Files<File = File>> Disk<'r, R> {
@@ -78,6 +77,7 @@ impl<'r, R: Files<File = File>> Disk<'r, R> {
                 places,
                 passed: Passed::new(alloc, kind.is_stack()),
                 ends: LineEnds::new(alloc),
+                before: String::new(alloc),
             },
         })
     }
@@ -85,8 +85,7 @@ impl<'r, R: Files<File = File>> Disk<'r, R> {
     /// Takes away the temporaries that a run left which a fault of another file broke off, and the last directories that are empty.
     /// Nothing is called behind it.
     pub fn end(&mut self) {
-        self.files.give_up_all();
-        self.files.drop_emptied();
+        self.files.end_run();
     }
 
     /// What failed last.
@@ -104,9 +103,19 @@ impl<'r, R: Files<File = File>> Disk<'r, R> {
         self.files.taken()
     }
 
+    /// The lines on files that keep their own times.
+    pub fn undated(&self) -> &str {
+        self.files.undated()
+    }
+
     /// What is kept of the patch text that was read last.
     pub fn passed(&self) -> &Passed {
         &self.seen.passed
+    }
+
+    /// The names of the files of the patch texts that the commands of a stack before the last one took, each with a line feed behind it.
+    pub fn taken_before(&self) -> &str {
+        self.seen.before.as_str()
     }
 
     /// How the lines of the files end that were read to be patched.
@@ -114,11 +123,11 @@ impl<'r, R: Files<File = File>> Disk<'r, R> {
         &self.seen.ends
     }
 
-    /// A file of up to 1 MiB, where it is there. No fault is counted, so it is asked behind a run.
-    pub fn text(&mut self, alloc: Global, name: &Name) -> Option<Vec<u8>> {
+    /// A file of up to so many bytes, where it is there. No fault is counted, so it is asked behind a run.
+    pub fn text(&mut self, alloc: Global, name: &Name, most: u32) -> Option<Vec<u8>> {
         let path = Path::of(name);
         let size = match self.files.size(path) {
-            Ok(Some(size)) if size <= LARGEST_TEXT => size as usize,
+            Ok(Some(size)) if size <= u64::from(most) => size as usize,
             _ => return None,
         };
         let mut text = match vec![in alloc; 0u8; size] {
@@ -135,7 +144,26 @@ impl<'r, R: Files<File = File>> Disk<'r, R> {
     }
 }
 
+/// A command of a stack begins, behind another one it may be. Other runs have one command.
+fn begin_command<R: Files<File = File>>(files: &mut OpenFiles<'_, R>, seen: &mut Seen) {
+    if seen.places.kind.is_stack() {
+        files.begin_run();
+        seen.begin();
+    }
+}
+
 impl Seen {
+    /// Keeps the name of the text that the command before took, and forgets the rest of it.
+    fn begin(&mut self) {
+        let name = self.passed.file();
+        if !name.is_empty() {
+            let _ = self.before.push_str(name);
+            let _ = self.before.push('\n');
+        }
+        self.passed.forget();
+        self.ends.forget();
+    }
+
     /// Keeps which file has the patch text.
     fn note_file(&mut self, name: &str) {
         if is_patch(&self.places, name) {
@@ -244,6 +272,7 @@ impl<'r, R: Files<File = File>> Tree for Disk<'r, R> {
     /// That the tree is settled when a run begins is a premise over real files: all that is looked for is its directory, and what
     /// stands at the names that the words give.
     fn settle(&mut self) -> Result<(), Failed> {
+        begin_command(&mut self.files, &mut self.seen);
         let (name, done) = begun(&mut self.files, &self.seen.places);
         self.faults.answer(name, done)
     }
@@ -260,6 +289,11 @@ impl<'r, R: Files<File = File>> Tree for Disk<'r, R> {
         self.faults.answer(name.text(), done)
     }
 
+    fn is_read_only(&mut self, name: &Name) -> Result<bool, Failed> {
+        let done = self.files.is_read_only(Path::of(name));
+        self.faults.answer(name.text(), done)
+    }
+
     fn read_at(&mut self, name: &Name, at: u64, buf: &mut [u8]) -> Result<usize, Failed> {
         let path = Path::of(name);
         let done = self.files.read_at(path, at, buf);
@@ -269,6 +303,11 @@ impl<'r, R: Files<File = File>> Tree for Disk<'r, R> {
 
     fn has_dir(&mut self, name: &Name, parts: u64) -> Result<bool, Failed> {
         let done = self.files.has_dir(Path::of(name), parts);
+        self.faults.answer(name.text(), done)
+    }
+
+    fn last_number(&mut self, name: &Name) -> Result<u64, Failed> {
+        let done = self.files.last_number(Path::of(name));
         self.faults.answer(name.text(), done)
     }
 
@@ -291,6 +330,11 @@ impl<'r, R: Files<File = File>> Tree for Disk<'r, R> {
     fn set_link(&mut self, temp: &Name) -> Result<(), Failed> {
         let done = self.files.set_link(Path::of(temp));
         self.faults.answer(temp.text(), done)
+    }
+
+    fn set_time(&mut self, temp: &Name, to: &Name, change: TimeChange) -> Result<(), Failed> {
+        let done = self.files.set_time(Path::of(temp), Path::of(to), change);
+        self.faults.answer(to.text(), done)
     }
 
     fn seal(&mut self, temp: &Name) -> Result<(), Failed> {

@@ -20,6 +20,13 @@ impl LineEnds {
         }
     }
 
+    /// Forgets the files.
+    pub fn forget(&mut self) {
+        self.returned.clear();
+        self.plain.clear();
+        self.last.clear();
+    }
+
     /// The first file whose first line ends in carriage return and line feed, or nothing.
     pub fn returned(&self) -> &str {
         self.returned.as_str()

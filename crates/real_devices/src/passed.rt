@@ -60,6 +60,12 @@ impl Passed {
         let _ = self.file.push_str(file);
     }
 
+    /// Forgets the text that went by.
+    pub fn forget(&mut self) {
+        self.file.clear();
+        self.whole(&[]);
+    }
+
     /// A whole text goes by. What was kept of another one goes.
     pub fn whole(&mut self, text: &[u8]) {
         self.last = None;

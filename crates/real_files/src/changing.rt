@@ -1,5 +1,6 @@
 //! Files are made, filled, put at their names and taken away.
 
+use crate::dated::give_time;
 use crate::files::OpenFiles;
 use crate::found::Found;
 use crate::fresh::{make_beside, rights_due};
@@ -7,6 +8,7 @@ use crate::origins::{Grant, usual};
 use crate::paths::{Path, no_file, replaceable, target_of, with_bytes};
 use crate::rights::give;
 use crate::spots::Place;
+use outside::TimeChange;
 use std::fs::File;
 use std::io;
 use std::rt::Files;
@@ -99,6 +101,16 @@ impl<'r, R: Files<File = File>> OpenFiles<'r, R> {
         self.temporaries.set_link(temp.text, !self.kind.is_stack())
     }
 
+    /// Keeps the time that the file is to get, unless what stands at its name, or its bytes, don't allow it, which is told.
+    pub fn set_time(&mut self, temp: Path<'_>, to: Path<'_>, change: TimeChange) -> io::Result<()> {
+        let now = match self.look(to) {
+            Ok(now) => now,
+            Err(error) => return Err(error),
+        };
+        let time = self.undated.time_of(to.text, now, change);
+        self.temporaries.set_time(temp.text, time)
+    }
+
     /// Writes what was gathered, gives the file its rights, and syncs it, or makes a link of it. Where that fails, it is taken away.
     pub fn seal(&mut self, temp: Path<'_>) -> io::Result<()> {
         let done = self.sealed(temp);
@@ -133,6 +145,7 @@ impl<'r, R: Files<File = File>> OpenFiles<'r, R> {
             return self.make_link(number, temp);
         }
         give(file, temporary.rights())?;
+        give_time(file, temporary.time)?;
         if self.syncs.are_made() {
             file.sync_all()?;
         }
@@ -240,8 +253,21 @@ impl<'r, R: Files<File = File>> OpenFiles<'r, R> {
         done
     }
 
+    /// A run begins, behind another one it may be: what that left is taken away, and what it saw says nothing of this one.
+    pub fn begin_run(&mut self) {
+        self.end_run();
+        self.saves.forget();
+        self.temporaries.origin = None;
+    }
+
+    /// Takes away the temporaries that a run left which a fault of another file broke off, and the last directories that are empty.
+    pub fn end_run(&mut self) {
+        self.give_up_all();
+        self.drop_emptied();
+    }
+
     /// Takes away what is still there of temporaries, as far as the system lets it.
-    pub fn give_up_all(&mut self) {
+    fn give_up_all(&mut self) {
         for number in 0..self.temporaries.count() {
             let is_there = match self.temporaries.get(number) {
                 Some(temporary) => temporary.is_there(),

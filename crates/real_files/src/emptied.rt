@@ -49,7 +49,7 @@ impl<'r, R: Files<File = File>> OpenFiles<'r, R> {
 
     /// Takes the directory away that was kept, and those around it, from the innermost to the first that isn't empty or that the
     /// operator gave.
-    pub fn drop_emptied(&mut self) {
+    pub(crate) fn drop_emptied(&mut self) {
         self.looks.forget();
         let given = self.emptied.given;
         for (slash, _) in self.emptied.front.as_str().rmatch_indices('/') {

@@ -10,6 +10,7 @@
 //! A pipe or a device has no bytes, but where the operator gave its name for a text: then it is read to its end.
 ghost use Rattle.std.specs.Prelude.{◌≤◌, length, IfOk};
 
+use crate::dated::Undated;
 use crate::directories::{Directories, Syncs};
 use crate::emptied::Emptied;
 use crate::found::{Found, found_behind, found_itself, told};
@@ -29,6 +30,7 @@ use crate::writing::Writing;
 use std::alloc::{AllocError, Global};
 use std::fs::{File, OpenFile, OpenOptions};
 use std::io;
+use std::io::ErrorKind;
 use std::rt::{Files, Stdout};
 
 #[derive(Drop)]
@@ -47,6 +49,7 @@ pub struct OpenFiles<'r, R: Files<File = File>> {
     pub(crate) outlets: Outlets,
     pub(crate) directories: Directories,
     pub(crate) emptied: Emptied,
+    pub(crate) undated: Undated,
 }
 
 impl<'r, R: Files<File = File>> OpenFiles<'r, R> {
@@ -70,6 +73,7 @@ impl<'r, R: Files<File = File>> OpenFiles<'r, R> {
         let outlets = Outlets::new(alloc, standard, temporary)?;
         let directories = Directories::new(alloc, syncs, follows)?;
         let emptied = Emptied::new(alloc)?;
+        let undated = Undated::new(alloc)?;
         Ok(OpenFiles {
             rt,
             alloc,
@@ -85,6 +89,7 @@ impl<'r, R: Files<File = File>> OpenFiles<'r, R> {
             outlets,
             directories,
             emptied,
+            undated,
         })
     }
 
@@ -211,8 +216,36 @@ impl<'r, R: Files<File = File>> OpenFiles<'r, R> {
         }
     }
 
+    /// Whether the system doesn't let the file at a name be opened to be written to.
+    pub fn is_read_only(&mut self, name: Path<'_>) -> io::Result<bool> {
+        let place = match self.directories.open_way(self.rt, name, false) {
+            Ok(place) => place,
+            Err(error) => return Err(error),
+        };
+        let mut how = OpenOptions::new();
+        how.write(true);
+        match self.directories.open(self.rt, &how, place) {
+            Ok(_) => Ok(false),
+            Err(error) => Ok(matches!(error.kind(), ErrorKind::PermissionDenied)),
+        }
+    }
+
+    /// The greatest number that a backup of a name has.
+    pub fn last_number(&mut self, name: Path<'_>) -> io::Result<u64> {
+        match self.directories.way(self.rt, name, false) {
+            Ok(Some(place)) => self.directories.last_number(self.rt, place),
+            Ok(None) => Ok(0),
+            Err(error) => Err(error),
+        }
+    }
+
+    /// The lines on files that keep their own times.
+    pub fn undated(&self) -> &str {
+        self.undated.lines()
+    }
+
     /// What stands at a name: as it was looked at last, unless the run has changed a name since.
-    fn look(&mut self, name: Path<'_>) -> io::Result<Found> {
+    pub(crate) fn look(&mut self, name: Path<'_>) -> io::Result<Found> {
         if let Some(number) = self.temporaries.find(name.text) {
             return self.look_at_temporary(number, name);
         }

@@ -40,6 +40,10 @@ pub struct Found {
     pub identity: Identity,
     pub rights: Rights,
     pub length: u64,
+    /// When its bytes were written last, in seconds since 1970.
+    pub seconds: i64,
+    /// Nanoseconds since that second.
+    pub nanoseconds: i64,
 }
 
 impl Found {
@@ -53,6 +57,8 @@ impl Found {
         identity: Identity::HERE,
         rights: Rights::NONE,
         length: 0,
+        seconds: 0,
+        nanoseconds: 0,
     };
 
     /// What is told of what stands there.
@@ -137,6 +143,8 @@ pub fn told(answer: io::Result<Metadata>) -> io::Result<Found> {
             },
             rights: Rights::of(&found),
             length: found.len(),
+            seconds: found.mtime(),
+            nanoseconds: found.mtime_nsec(),
         }),
         Err(error) => match error.kind() {
             ErrorKind::NotFound | ErrorKind::NotADirectory => Ok(Found::NOTHING),

@@ -2,6 +2,7 @@
 #![tactic(auto)]
 
 mod changing;
+mod dated;
 mod directories;
 mod emptied;
 mod files;
@@ -13,6 +14,7 @@ mod links;
 mod looks;
 mod missing;
 mod named;
+mod numbers;
 mod origins;
 mod outlets;
 mod paths;

@@ -44,6 +44,13 @@ impl Saves {
         }
     }
 
+    /// Forgets what was seen.
+    pub fn forget(&mut self) {
+        self.audience = None;
+        self.source = None;
+        self.gone.clear();
+    }
+
     /// Whether the stack keeps this file for itself.
     pub fn is_own(&self, name: &str) -> bool {
         self.is_stack && name.starts_with(OWN)

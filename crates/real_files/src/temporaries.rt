@@ -8,6 +8,7 @@ use crate::text::{LONGEST_PATH, Text};
 use std::alloc::{AllocError, Global};
 use std::fs::File;
 use std::io;
+use std::time::SystemTime;
 
 /// How many there is room for from the beginning. A file patch fills two at once.
 const MOST: usize = 4;
@@ -37,6 +38,8 @@ pub struct Temporary {
     executable: Option<bool>,
     /// Whether it becomes a link.
     pub is_link: bool,
+    /// The time that it gets, if it isn't that of its writing.
+    pub time: Option<SystemTime>,
     stage: Stage,
     /// When it was started.
     started: u64,
@@ -54,6 +57,7 @@ impl Temporary {
             due: Grant::NONE,
             executable: None,
             is_link: false,
+            time: None,
             stage: Stage::Gone,
             started: 0,
         })
@@ -177,6 +181,7 @@ impl Temporaries {
             temporary.due = due;
             temporary.executable = None;
             temporary.is_link = false;
+            temporary.time = None;
             temporary.stage = Stage::Filled;
             temporary.started = self.time;
         }
@@ -246,6 +251,17 @@ impl Temporaries {
         };
         if let Some(temporary) = self.all.get_mut(number) {
             temporary.is_link = link;
+        }
+        Ok(())
+    }
+
+    /// Keeps the time that the one gets that goes by this name.
+    pub fn set_time(&mut self, name: &str, time: Option<SystemTime>) -> io::Result<()> {
+        let Some(number) = self.find(name) else {
+            return Err(no_file());
+        };
+        if let Some(temporary) = self.all.get_mut(number) {
+            temporary.time = time;
         }
         Ok(())
     }

@@ -60,13 +60,17 @@ impl Text {
 
     /// A text for which there is no room is longer than the system takes.
     pub fn add(&mut self, text: &str) -> io::Result<()> {
-        if self.text.len().saturating_add(text.len()) > self.room {
+        if !self.has_room(text.len()) {
             return Err(too_long());
         }
         match self.text.push_str(text) {
             Ok(()) => Ok(()),
             Err(error) => Err(error.into()),
         }
+    }
+
+    pub fn has_room(&self, size: usize) -> bool {
+        self.text.len().saturating_add(size) <= self.room
     }
 
     pub fn add_number(&mut self, number: u32) -> io::Result<()> {

@@ -5,7 +5,7 @@ ghost use Rattle.patch_options.specs.PlainJob.{plain_options, IsLawful};
 use crate::names::has_target;
 use filter_choice::{Outline, read_outline};
 use patch_header::Ways;
-use patch_options::{Input, Options, PlanKind, SyncKind};
+use patch_options::{BackupNumbers, FileTimes, Input, Options, PlanKind, ReadOnlyFiles, SyncKind};
 use patch_set::{PatchSet, read_set};
 use patch_text::read_patches;
 use std::alloc::{AllocError, Global};
@@ -107,6 +107,8 @@ fn plain() -> Options
         mismatch_backup: true,
         suffix: None,
         prefix: None,
+        base_prefix: None,
+        numbers: BackupNumbers::Never,
         dir: None,
         file: None,
         input: Input::Standard,
@@ -119,6 +121,8 @@ fn plain() -> Options
         keep_returns: false,
         skip_binary: false,
         dry_run: false,
+        read_only: ReadOnlyFiles::Told,
+        times: FileTimes::Written,
         follow_links: false,
         silent: false,
         verbose: false,

@@ -27,7 +27,7 @@ number-fits n at long small within short = omega (arith, small, within, short)
 pub next-number : (n at : ℕ) → n < at + 2 ^ 32 → n + 1 ≤ at + 2 ^ 32
 next-number n at small = omega (arith, small)
 
-pub place-fits : (n : ℕ) → n < 2 ^ 32 → Fits w64 (n * 288)
+pub place-fits : (n : ℕ) → n < 2 ^ 32 → Fits w64 (n * 304)
 place-fits n small = omega (arith, small)
 
 pub patch-fits : (n count : ℕ) → n < count → count < 2 ^ 32 → Fits w32 n

@@ -11,7 +11,7 @@ use Rattle.stack_patch.proofs.Reader.{reads}
 
 pub options_lawful : IsLawful push_options
 unfolding push_options
-options_lawful = record { suffix = λ x is. absurd cc; prefix = λ x is. absurd cc; reject_form = λ x is. absurd cc; define = λ x is. absurd cc; least = omega arith; most = omega arith }
+options_lawful = record { suffix = λ x is. absurd cc; prefix = λ x is. absurd cc; base_prefix = λ x is. absurd cc; reject_form = λ x is. absurd cc; define = λ x is. absurd cc; least = omega arith; most = omega arith }
 
 pub keeps : KeepsItsStack read_patch
 keeps = record {

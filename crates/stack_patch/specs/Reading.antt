@@ -8,6 +8,9 @@ use Rattle.hunk_core.specs.Reading.{Fault}
 use Rattle.patch_options.specs.PlainJob.{PlainOptions}
 use Rattle.patch_options.specs.declared.options.Input.TheVariants.{Standard}
 use Rattle.patch_options.specs.declared.options.PlanKind.TheVariants.{Auto}
+use Rattle.patch_options.specs.declared.options.BackupNumbers.TheVariants.{Never}
+use Rattle.patch_options.specs.declared.options.FileTimes.TheVariants.{Written}
+use Rattle.patch_options.specs.declared.options.ReadOnlyFiles.TheVariants.{Told}
 use Rattle.patch_options.specs.declared.options.SyncKind.TheVariants.{Each}
 use Rattle.file_patch.specs.Numbered.{is_among}
 use Rattle.file_patch.specs.PlainPatch.{PlainPatch}
@@ -41,6 +44,8 @@ push_options = record {
   mismatch_backup = false;
   suffix = None;
   prefix = None;
+  base_prefix = None;
+  numbers = Never;
   dir = None;
   file = None;
   input = Standard;
@@ -53,6 +58,8 @@ push_options = record {
   keep_returns = false;
   skip_binary = false;
   dry_run = false;
+  read_only = Told;
+  times = Written;
   follow_links = false;
   silent = false;
   verbose = false;

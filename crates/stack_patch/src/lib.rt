@@ -22,7 +22,7 @@ use clean_text::read_clean;
 pub use laws::{names_of_a_run, patches_of_a_stack};
 pub use names::{Saved, saved_names};
 use outside::{Name, Tree};
-use patch_options::{Input, Options, PlanKind, SyncKind};
+use patch_options::{BackupNumbers, FileTimes, Input, Options, PlanKind, ReadOnlyFiles, SyncKind};
 use patch_set::{PatchSet, SetFault};
 use run_answers::{InputFault, read_file};
 use std::alloc::Global;
@@ -55,6 +55,8 @@ pub fn push_options() -> Options
         mismatch_backup: false,
         suffix: None,
         prefix: None,
+        base_prefix: None,
+        numbers: BackupNumbers::Never,
         dir: None,
         file: None,
         input: Input::Standard,
@@ -67,6 +69,8 @@ pub fn push_options() -> Options
         keep_returns: false,
         skip_binary: false,
         dry_run: false,
+        read_only: ReadOnlyFiles::Told,
+        times: FileTimes::Written,
         follow_links: false,
         silent: false,
         verbose: false,

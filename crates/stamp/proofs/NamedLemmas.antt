@@ -1,4 +1,4 @@
--- A named stamp is read as its instant, and nothing else is.
+-- A named stamp is read as its time, and nothing else is.
 use Rattle.std.proofs.Common.{◌≡◌, ℕ, ◌+◌, ◌-◌, ◌*◌, ◌/◌, ◌%◌, ◌<◌, Bool, true, false, cond, eqb, ◌&&◌, List, [], ◌∷◌, ◌++◌, length, get_or, take, drop, None, Some, refl, sym, ap, ◌∙◌, arith, inl, inr, append_assoc, length-drop}
 use Rattle.std.specs.Prelude.{ℤ, pos, ◌+ℤ◌, ◌*ℤ◌, slice_range}
 use Rattle.std.proofs.lemmas.Bool.{and_parts, and_from, eqb-true}
@@ -6,12 +6,13 @@ use Rattle.std.proofs.lemmas.List.{take-append-drop, drop-drop}
 use Rattle.std.proofs.lemmas.Option.{option_and_then_some}
 use Rattle.std.specs.Option.{option_map, option_and_then}
 use Rattle.jiff_core.specs.Calendar.{days_from_civil}
+use Rattle.outside.specs.declared.time.Time.{Time}
 use Rattle.stamp.specs.Forms.{two, four, Civil, IsCivil, IsDay, IsDayText, seconds, time_text, IsNamedStamp, IsStamp, weekdays, months}
-use Rattle.stamp.specs.Reading.{stands, digit_at, two_at, four_at, day_number, clock_of, day_of, place_among, named_day, named_of, numeric_day, numeric_of}
+use Rattle.stamp.specs.Reading.{stands, digit_at, two_at, four_at, day_number, clock_of, day_of, place_among, named_day, named_of, local_time, numeric_day, numeric_of}
 use Rattle.stamp.proofs.OptionLemmas.{map-some, if-other}
 use Rattle.stamp.proofs.Digits.{byte-piece, piece, digit-some, digit-read, digit-none, two-piece, two-read, four-piece, four-read}
 use Rattle.stamp.proofs.Parts.{Clock, clock-some, clock-read, day-some, day-read, day-small}
-use Rattle.stamp.proofs.NumericLemmas.{numeric-read}
+use Rattle.stamp.proofs.NumericLemmas.{same-time, numeric-read}
 use Rattle.stamp.proofs.NameLemmas.{place-some, Letters, weekday-letters, month-letters}
 
 pub record DayPlace (text : List ℕ) (day : ℕ) : Type 0 where
@@ -87,8 +88,8 @@ none-left (x ∷ xs) e = absurd (omega arith)
 regroup : (a b c d e : List ℕ) → a ++ (b ++ (c ++ (d ++ e))) ≡ (((a ++ b) ++ c) ++ d) ++ e
 regroup a b c d e = simp append_assoc
 
-named-by : (text : List ℕ) (z day : ℤ) (clock : ℕ) → length text ≡ 24 → NamedDay text day → Clock text clock → day *ℤ pos 86_400 +ℤ pos clock ≡ z → IsNamedStamp text z
-named-by text z day clock long d c e =
+named-by : (text : List ℕ) (t : Time) (day : ℤ) (clock : ℕ) → length text ≡ 24 → NamedDay text day → Clock text clock → local_time (day *ℤ pos 86_400 +ℤ pos clock) ≡ t → IsNamedStamp text t
+named-by text t day clock long d c e =
     let civil : Civil = record { year = d.year; month = d.month + 1; day = d.day; hour = c.hour; minute = c.minute; second = c.second } in
     let same : seconds civil ≡ day *ℤ pos 86_400 +ℤ pos clock = rw (d.value, c.value) refl in
     let back : d.month + 1 - 1 ≡ d.month = omega arith in
@@ -105,16 +106,18 @@ named-by text z day clock long d c e =
       is_civil = record { day = d.is_day; time = c.time };
       is_day_text = d.is_day_text;
       spelled = rw back (whole ∙ regroup (get_or weekdays d.weekday []) (32 ∷ get_or months d.month []) (32 ∷ d.day_text) clocks year);
-      value = sym e ∙ sym same;
+      seconds = ap (λ t. t.seconds) (sym e) ∙ sym same;
+      whole = ap (λ t. t.nanoseconds) (sym e);
+      in_no_zone = ap (λ t. t.is_local) (sym e);
     }
 
-pub named-some : (text : List ℕ) (z : ℤ) → named_of text ≡ Some z → IsNamedStamp text z
+pub named-some : (text : List ℕ) (t : Time) → named_of text ≡ Some t → IsNamedStamp text t
 unfolding named_of
-named-some text z e =
-    let found = if-other (eqb (length text) 24) (option_and_then (λ day. option_map (λ clock. day *ℤ pos 86_400 +ℤ pos clock) (clock_of text)) (named_day text)) z e in
-    option_and_then_some _ (named_day text) z found.1 (λ day d more.
-    map-some (λ clock. day *ℤ pos 86_400 +ℤ pos clock) (clock_of text) z more (λ clock c value.
-    named-by text z day clock (eqb-true _ _ found.0) (named_day-some text day d) (clock-some text clock c) value))
+named-some text t e =
+    let found = if-other (eqb (length text) 24) (option_and_then (λ day. option_map (λ clock. local_time (day *ℤ pos 86_400 +ℤ pos clock)) (clock_of text)) (named_day text)) t e in
+    option_and_then_some _ (named_day text) t found.1 (λ day d more.
+    map-some (λ clock. local_time (day *ℤ pos 86_400 +ℤ pos clock)) (clock_of text) t more (λ clock c value.
+    named-by text t day clock (eqb-true _ _ found.0) (named_day-some text day d) (clock-some text clock c) value))
 
 -- ---- back
 
@@ -123,7 +126,7 @@ module _ (w1 w2 w3 m1 m2 m3 d1 d2 : ℕ) (c : Civil) where
   plain = w1 ∷ w2 ∷ w3 ∷ 32 ∷ m1 ∷ m2 ∷ m3 ∷ 32 ∷ d1 ∷ d2 ∷ 32 ∷ (time_text c.hour c.minute c.second ++ (32 ∷ four c.year))
 
   pub plain-read : (weekday month : ℕ) → IsCivil c → place_among weekdays (w1 ∷ w2 ∷ w3 ∷ []) ≡ Some weekday → place_among months (m1 ∷ m2 ∷ m3 ∷ []) ≡ Some month → month + 1 ≡ c.month
-      → day_of plain ≡ Some c.day → named_of plain ≡ Some (seconds c)
+      → day_of plain ≡ Some c.day → named_of plain ≡ Some (local_time (seconds c))
   unfolding plain named_of named_day
   plain-read weekday month is w m e d =
       let y : four_at plain 20 ≡ Some c.year = four-read plain 20 c.year refl refl refl refl (omega (arith, is.day.years.1)) in
@@ -143,46 +146,47 @@ module _ (w1 w2 w3 m1 m2 m3 d1 d2 : ℕ) (c : Civil) where
   unfolding plain day_of
   plain-two e f lt = let no : eqb d1 32 ≡ false = grind arith in rw no (two-read _ 8 c.day e f lt)
 
-spelled-two : (text : List ℕ) (z : ℤ) (s : IsNamedStamp text z) → (w : Letters weekdays s.weekday) (m : Letters months (s.civil.month - 1)) → s.day_text ≡ two s.civil.day → text ≡ plain w.a w.b w.c m.a m.b m.c (48 + s.civil.day / 10) (48 + s.civil.day % 10) s.civil
+spelled-two : (text : List ℕ) (t : Time) (s : IsNamedStamp text t) → (w : Letters weekdays s.weekday) (m : Letters months (s.civil.month - 1)) → s.day_text ≡ two s.civil.day → text ≡ plain w.a w.b w.c m.a m.b m.c (48 + s.civil.day / 10) (48 + s.civil.day % 10) s.civil
 unfolding plain
-spelled-two text z s w m e = s.spelled ∙ (rw (w.is, m.is, e) refl)
+spelled-two text t s w m e = s.spelled ∙ (rw (w.is, m.is, e) refl)
 
-spelled-padded : (text : List ℕ) (z : ℤ) (s : IsNamedStamp text z) → (w : Letters weekdays s.weekday) (m : Letters months (s.civil.month - 1)) → s.day_text ≡ 32 ∷ (48 + s.civil.day) ∷ [] → text ≡ plain w.a w.b w.c m.a m.b m.c 32 (48 + s.civil.day) s.civil
+spelled-padded : (text : List ℕ) (t : Time) (s : IsNamedStamp text t) → (w : Letters weekdays s.weekday) (m : Letters months (s.civil.month - 1)) → s.day_text ≡ 32 ∷ (48 + s.civil.day) ∷ [] → text ≡ plain w.a w.b w.c m.a m.b m.c 32 (48 + s.civil.day) s.civil
 unfolding plain
-spelled-padded text z s w m e = s.spelled ∙ (rw (w.is, m.is, e) refl)
+spelled-padded text t s w m e = s.spelled ∙ (rw (w.is, m.is, e) refl)
 
-pub named-read : (text : List ℕ) (z : ℤ) → IsNamedStamp text z → (numeric_of text ≡ None) × (named_of text ≡ Some z)
-named-read text z s =
+pub named-read : (text : List ℕ) (time : Time) → IsNamedStamp text time → (numeric_of text ≡ None) × (named_of text ≡ Some time)
+named-read text time s =
     let c = s.civil in
     let w : Letters weekdays s.weekday = weekday-letters s.weekday s.is_weekday in
     let m : Letters months (c.month - 1) = month-letters (c.month - 1) (omega (arith, s.is_civil.day.months.0, s.is_civil.day.months.1)) in
     let back : c.month - 1 + 1 ≡ c.month = omega (arith, s.is_civil.day.months.0) in
+    let value : local_time (seconds c) ≡ time = same-time time _ _ true (sym s.seconds) (sym s.whole) (sym s.in_no_zone) in
     elim s.is_day_text [
       | inl e ↦
-          let t = spelled-two text z s w m e in
+          let t = spelled-two text time s w m e in
           let day = plain-two w.a w.b w.c m.a m.b m.c (48 + c.day / 10) (48 + c.day % 10) c refl refl (day-small c.year c.month c.day s.is_civil.day) in (
             ap numeric_of t ∙ plain-no_number w.a w.b w.c m.a m.b m.c (48 + c.day / 10) (48 + c.day % 10) c w.letter,
-            ap named_of t ∙ plain-read w.a w.b w.c m.a m.b m.c (48 + c.day / 10) (48 + c.day % 10) c s.weekday (c.month - 1) s.is_civil w.place m.place back day ∙ ap Some (sym s.value),
+            ap named_of t ∙ plain-read w.a w.b w.c m.a m.b m.c (48 + c.day / 10) (48 + c.day % 10) c s.weekday (c.month - 1) s.is_civil w.place m.place back day ∙ ap Some value,
           )
       | inr p ↦
-          let t = spelled-padded text z s w m p.1 in
+          let t = spelled-padded text time s w m p.1 in
           let day = plain-padded w.a w.b w.c m.a m.b m.c 32 (48 + c.day) c refl refl p.0 in (
             ap numeric_of t ∙ plain-no_number w.a w.b w.c m.a m.b m.c 32 (48 + c.day) c w.letter,
-            ap named_of t ∙ plain-read w.a w.b w.c m.a m.b m.c 32 (48 + c.day) c s.weekday (c.month - 1) s.is_civil w.place m.place back day ∙ ap Some (sym s.value),
+            ap named_of t ∙ plain-read w.a w.b w.c m.a m.b m.c 32 (48 + c.day) c s.weekday (c.month - 1) s.is_civil w.place m.place back day ∙ ap Some value,
           )
     ]
 
 -- ---- the exits of the reader
 
-pub numeric-stamp : (text : List ℕ) (z : ℤ) → numeric_of text ≡ Some z → (y : ℤ) → IsStamp text y → z ≡ y
-numeric-stamp text z e y (inl n) = let o : numeric_of text ≡ Some y = numeric-read text y n in cc
-numeric-stamp text z e y (inr n) = let o : numeric_of text ≡ None = (named-read text y n).0 in absurd cc
+pub numeric-stamp : (text : List ℕ) (t : Time) → numeric_of text ≡ Some t → (y : Time) → IsStamp text y → t ≡ y
+numeric-stamp text t e y (inl n) = let o : numeric_of text ≡ Some y = numeric-read text y n in cc
+numeric-stamp text t e y (inr n) = let o : numeric_of text ≡ None = (named-read text y n).0 in absurd cc
 
-pub named-stamp : (text : List ℕ) (z : ℤ) → numeric_of text ≡ None → named_of text ≡ Some z → (y : ℤ) → IsStamp text y → z ≡ y
-named-stamp text z none e y (inl n) = let o : numeric_of text ≡ Some y = numeric-read text y n in absurd cc
-named-stamp text z none e y (inr n) = let o : named_of text ≡ Some y = (named-read text y n).1 in cc
+pub named-stamp : (text : List ℕ) (t : Time) → numeric_of text ≡ None → named_of text ≡ Some t → (y : Time) → IsStamp text y → t ≡ y
+named-stamp text t none e y (inl n) = let o : numeric_of text ≡ Some y = numeric-read text y n in absurd cc
+named-stamp text t none e y (inr n) = let o : named_of text ≡ Some y = (named-read text y n).1 in cc
 
-pub no-stamp : (text : List ℕ) → numeric_of text ≡ None → named_of text ≡ None → (y : ℤ) → IsStamp text y → ⊥
+pub no-stamp : (text : List ℕ) → numeric_of text ≡ None → named_of text ≡ None → (y : Time) → IsStamp text y → ⊥
 no-stamp text none e y (inl n) = let o : numeric_of text ≡ Some y = numeric-read text y n in cc
 no-stamp text none e y (inr n) = let o : named_of text ≡ Some y = (named-read text y n).1 in cc
 

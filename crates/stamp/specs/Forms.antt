@@ -1,8 +1,9 @@
--- The two forms of a stamp in a header line, and the instant of each (POSIX `patch`; GNU diffutils manual, "Unified Format" and "Context Format").
-use Rattle.std.specs.Prelude.{◌≡◌, ◌⊎◌, ℕ, ◌+◌, ◌-◌, ◌*◌, ◌/◌, ◌%◌, ◌<◌, ◌≤◌, Bool, if◌then◌else◌, List, [], ◌∷◌, ◌++◌, length, slice_index_or, ℤ, pos, neg_ℤ, ◌+ℤ◌, ◌-ℤ◌, ◌*ℤ◌, codes}
+-- The two forms of a stamp in a header line, and the time of each (POSIX `patch`; GNU diffutils manual, "Unified Format" and "Context Format").
+use Rattle.std.specs.Prelude.{◌≡◌, ◌⊎◌, ℕ, ◌+◌, ◌-◌, ◌*◌, ◌/◌, ◌%◌, ◌<◌, ◌≤◌, Bool, true, false, if◌then◌else◌, List, [], ◌∷◌, ◌++◌, length, slice_index_or, ℤ, pos, neg_ℤ, ◌+ℤ◌, ◌-ℤ◌, ◌*ℤ◌, codes}
 use Rattle.std.specs.Int.{IsInRange}
 use Rattle.jiff_core.specs.Calendar.{days_in_month, days_from_civil}
 use Rattle.num_text.specs.Numbers.{AllDigits}
+use Rattle.outside.specs.declared.time.Time.{Time}
 
 -- a number below a hundred in two digits
 abbrev pub two : ℕ → List ℕ
@@ -62,8 +63,18 @@ offset_seconds o = if o.is_east then pos (o.hours * 3600 + o.minutes * 60) else 
 abbrev pub IsFraction : List ℕ → Type 0
 IsFraction bytes = (bytes ≡ []) ⊎ ((digits : List ℕ) × (bytes ≡ 46 ∷ digits) × (0 < length digits) × AllDigits digits)
 
--- `YYYY-MM-DD HH:MM:SS`, perhaps a fraction, a space and an offset: the civil time minus the offset, without the fraction
-pub record IsNumericStamp (text : List ℕ) (instant : ℤ) : Type 0 where
+-- what digits come to, where the first counts so many and each of the others a tenth of the one before it; what counts less than 1 counts nothing
+unfoldable pub worth : ℕ → List ℕ → ℕ
+worth unit [] = 0
+worth unit (d ∷ ds) = (d - 48) * unit + worth (unit / 10) ds
+
+-- the nanoseconds of a fraction: its first nine digits
+abbrev pub nanoseconds_of : List ℕ → ℕ
+nanoseconds_of [] = 0
+nanoseconds_of (point ∷ digits) = worth 100_000_000 digits
+
+-- `YYYY-MM-DD HH:MM:SS`, perhaps a fraction, a space and an offset: the civil time minus the offset
+pub record IsNumericStamp (text : List ℕ) (time : Time) : Type 0 where
   pub civil : Civil
   pub fraction : List ℕ
   pub offset : Offset
@@ -71,7 +82,9 @@ pub record IsNumericStamp (text : List ℕ) (instant : ℤ) : Type 0 where
   pub is_fraction : IsFraction fraction
   pub is_offset : (offset.hours ≤ 23) × (offset.minutes ≤ 59)
   pub spelled : text ≡ four civil.year ++ (45 ∷ two civil.month) ++ (45 ∷ two civil.day) ++ (32 ∷ time_text civil.hour civil.minute civil.second) ++ fraction ++ (32 ∷ offset_text offset)
-  pub value : instant ≡ seconds civil -ℤ offset_seconds offset
+  pub seconds : time.seconds ≡ seconds civil -ℤ offset_seconds offset
+  pub nanoseconds : time.nanoseconds ≡ nanoseconds_of fraction
+  pub in_utc : time.is_local ≡ false
 
 abbrev pub weekdays : List (List ℕ)
 weekdays = codes "Mon" ∷ codes "Tue" ∷ codes "Wed" ∷ codes "Thu" ∷ codes "Fri" ∷ codes "Sat" ∷ codes "Sun" ∷ []
@@ -83,8 +96,8 @@ months = codes "Jan" ∷ codes "Feb" ∷ codes "Mar" ∷ codes "Apr" ∷ codes "
 abbrev pub IsDayText : ℕ → List ℕ → Type 0
 IsDayText day bytes = (bytes ≡ two day) ⊎ ((day < 10) × (bytes ≡ 32 ∷ (48 + day) ∷ []))
 
--- `Www Mmm DD HH:MM:SS YYYY` in UTC; the weekday may be any
-pub record IsNamedStamp (text : List ℕ) (instant : ℤ) : Type 0 where
+-- `Www Mmm DD HH:MM:SS YYYY`, in no known zone; the weekday may be any
+pub record IsNamedStamp (text : List ℕ) (time : Time) : Type 0 where
   pub weekday : ℕ
   pub civil : Civil
   pub day_text : List ℕ
@@ -92,8 +105,10 @@ pub record IsNamedStamp (text : List ℕ) (instant : ℤ) : Type 0 where
   pub is_civil : IsCivil civil
   pub is_day_text : IsDayText civil.day day_text
   pub spelled : text ≡ slice_index_or weekdays weekday [] ++ (32 ∷ slice_index_or months (civil.month - 1) []) ++ (32 ∷ day_text) ++ (32 ∷ time_text civil.hour civil.minute civil.second) ++ (32 ∷ four civil.year)
-  pub value : instant ≡ seconds civil
+  pub seconds : time.seconds ≡ seconds civil
+  pub whole : time.nanoseconds ≡ 0
+  pub in_no_zone : time.is_local ≡ true
 
--- the text is a stamp of this instant
-abbrev pub IsStamp : List ℕ → ℤ → Type 0
-IsStamp text instant = IsNumericStamp text instant ⊎ IsNamedStamp text instant
+-- the text is a stamp of this time
+abbrev pub IsStamp : List ℕ → Time → Type 0
+IsStamp text time = IsNumericStamp text time ⊎ IsNamedStamp text time

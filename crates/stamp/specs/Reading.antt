@@ -1,13 +1,14 @@
 -- What stands at the fixed places of a stamp.
-use Rattle.std.specs.Prelude.{ℕ, ◌+◌, ◌-◌, ◌*◌, Bool, nat_le, ◌&&◌, ◌==◌, if◌then◌else◌, List, length, drop, slice_index, slice_range, Option, None, Some, ℤ, pos, neg_ℤ, ◌+ℤ◌, ◌-ℤ◌, ◌*ℤ◌, option_map}
+use Rattle.std.specs.Prelude.{ℕ, ◌+◌, ◌-◌, ◌*◌, ◌/◌, Bool, true, false, nat_le, ◌&&◌, ◌==◌, if◌then◌else◌, List, [], ◌∷◌, length, drop, slice_index, slice_range, Option, None, Some, ℤ, pos, neg_ℤ, ◌+ℤ◌, ◌-ℤ◌, ◌*ℤ◌, option_map}
 use Rattle.std.specs.Option.{option_and_then, option_or}
 use Rattle.std.specs.List.{position}
 use Rattle.std.specs.Str.{bytes_eq}
 use Rattle.jiff_core.specs.Calendar.{days_in_month, days_from_civil}
 use Rattle.num_text.specs.Numbers.{is_digit, after_digits}
+use Rattle.outside.specs.declared.time.Time.{Time}
 use Rattle.stamp.specs.Forms.{weekdays, months}
 use Rattle.stamp.specs.declared.Stamp.{Stamp}
-use Rattle.stamp.specs.declared.Stamp.TheVariants.{Instant, Unknown}
+use Rattle.stamp.specs.declared.Stamp.TheVariants.{Known, Unknown}
 
 -- the byte stands there; past the end stands 0
 abbrev pub stands : List ℕ → ℕ → ℕ → Bool
@@ -53,8 +54,26 @@ zone_of rest = option_and_then (λ hours. option_and_then (λ minutes.
 unfoldable pub after_fraction : List ℕ → List ℕ
 after_fraction rest = if stands rest 0 46 && is_digit (slice_index rest 1) then after_digits (drop 1 rest) else rest
 
-unfoldable pub numeric_of : List ℕ → Option ℤ
-numeric_of text = option_and_then (λ day. option_and_then (λ clock. option_map (λ zone. day *ℤ pos 86_400 +ℤ pos clock -ℤ zone)
+-- what the digits at the front come to, where the first counts so many
+unfoldable pub worth_in : ℕ → List ℕ → ℕ
+worth_in unit [] = 0
+worth_in unit (b ∷ bs) = if is_digit b then (b - 48) * unit + worth_in (unit / 10) bs else 0
+
+-- the nanoseconds of a fraction at the front, 0 where there is none
+unfoldable pub nanoseconds_in : List ℕ → ℕ
+nanoseconds_in rest = if stands rest 0 46 then worth_in 100_000_000 (drop 1 rest) else 0
+
+-- a time by the clock of UTC
+abbrev pub utc_time : ℤ → ℕ → Time
+utc_time seconds nanoseconds = record { seconds = seconds; nanoseconds = nanoseconds; is_local = false }
+
+-- a whole second by a clock of no known zone
+abbrev pub local_time : ℤ → Time
+local_time seconds = record { seconds = seconds; nanoseconds = 0; is_local = true }
+
+unfoldable pub numeric_of : List ℕ → Option Time
+numeric_of text = option_and_then (λ day. option_and_then (λ clock. option_map (λ zone.
+    utc_time (day *ℤ pos 86_400 +ℤ pos clock -ℤ zone) (nanoseconds_in (drop 19 text)))
     (zone_of (after_fraction (drop 19 text)))) (clock_of text)) (numeric_day text)
 
 -- the place of three letters among names, counted from 0
@@ -71,13 +90,13 @@ named_day text = option_and_then (λ _. option_and_then (λ month. option_and_th
     if stands text 3 32 && stands text 7 32 && stands text 10 32 && stands text 19 32 then day_number year (month + 1) day else None)
     (four_at text 20)) (day_of text)) (place_among months (slice_range text 4 7))) (place_among weekdays (slice_range text 0 3))
 
-unfoldable pub named_of : List ℕ → Option ℤ
-named_of text = if length text == 24 then option_and_then (λ day. option_map (λ clock. day *ℤ pos 86_400 +ℤ pos clock) (clock_of text)) (named_day text) else None
+unfoldable pub named_of : List ℕ → Option Time
+named_of text = if length text == 24 then option_and_then (λ day. option_map (λ clock. local_time (day *ℤ pos 86_400 +ℤ pos clock)) (clock_of text)) (named_day text) else None
 
--- the instant, or nothing that is known
-abbrev pub as_stamp : Option ℤ → Stamp
+-- the time, or nothing that is known
+abbrev pub as_stamp : Option Time → Stamp
 as_stamp None = Unknown
-as_stamp (Some instant) = Instant instant
+as_stamp (Some time) = Known time
 
 -- what the text says, read in the one form or else in the other
 abbrev pub stamp_of : List ℕ → Stamp

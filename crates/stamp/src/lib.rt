@@ -1,18 +1,19 @@
-//! The instant of a stamp in a header line.
+//! The time that a stamp in a header line says.
 #![tactic(auto)]
 
 ghost use Rattle.std.specs.Prelude.{◌≡◌, ◌↔◌, ℕ, ◌<◌, ◌≤◌, ◌+◌, length, drop, IfSome, ℤ, pos, neg_ℤ, ◌+ℤ◌, ◌*ℤ◌, option_map, slice_range};
 ghost use Rattle.jiff.specs.Words.{IsBetween};
 ghost use Rattle.stamp.specs.Forms.{IsStamp};
-ghost use Rattle.stamp.specs.Reading.{stands, digit_at, two_at, four_at, day_number, clock_of, numeric_day, zone_of, after_fraction, numeric_of, place_among, day_of, named_day, named_of, stamp_of};
+ghost use Rattle.stamp.specs.Reading.{stands, digit_at, two_at, four_at, day_number, clock_of, numeric_day, zone_of, after_fraction, worth_in, nanoseconds_in, numeric_of, place_among, day_of, named_day, named_of, stamp_of};
 
 use jiff::civil::Date;
 use num_text::digits_end;
+use outside::Time;
 
-/// What a stamp says: seconds since 1970-01-01 00:00:00 UTC, or nothing that is known.
+/// What a stamp says: a time, or nothing that is known.
 #[derive(Clone, Copy, Debug)]
 pub enum Stamp {
-    Instant(i64),
+    Known(Time),
     Unknown,
 }
 
@@ -167,28 +168,63 @@ fn fraction_end(text: &[u8], at: usize) -> usize
     at
 }
 
+// What the digits at `at` come to in billionths: the first counts 100,000,000.
+fn billionths(text: &[u8], at: usize) -> u32
+    ensures value { result ≡ worth_in 100_000_000 (drop at text.now) }
+    ensures bound { result < 1_000_000_000 }
+{
+    let mut value = 0;
+    let mut unit = 100_000_000;
+    let mut place = at;
+    while let Some(digit) = digit(text, place) {
+        value += digit * unit;
+        unit /= 10;
+        place += 1;
+    }
+    value
+}
+
+// The nanoseconds of a fraction at `at`, 0 where there is none.
+#[tactic(auto, unfolding(crate::specs::Reading::nanoseconds_in))]
+fn nanoseconds(text: &[u8], at: usize) -> u32
+    ensures value { result ≡ nanoseconds_in (drop at text.now) }
+    ensures bound { result < 1_000_000_000 }
+{
+    if is_byte(text, at, b'.') {
+        billionths(text, at + 1)
+    } else {
+        0
+    }
+}
+
 #[tactic(auto, unfolding(crate::specs::Reading::numeric_of))]
-fn numeric(text: &[u8]) -> Option<i64>
-    ensures value { result ≡ numeric_of text.now }
-    ensures bound { IfSome result (IsBetween (neg_ℤ (pos 2000000000000)) (pos 2000000000000)) }
+fn numeric(text: &[u8]) -> Option<Time>
+    ensures { result ≡ numeric_of text.now }
 {
     let day = numeric_date(text)?;
     let clock = clock(text)?;
     let zone = zone(&text[fraction_end(text, 19)..])?;
-    Some(seconds_from(day, clock) - zone)
+    Some(Time {
+        seconds: seconds_from(day, clock) - zone,
+        nanoseconds: nanoseconds(text, 19),
+        is_local: false,
+    })
 }
 
 #[tactic(auto, unfolding(crate::specs::Reading::named_of))]
-fn named(text: &[u8]) -> Option<i64>
-    ensures value { result ≡ named_of text.now }
-    ensures bound { IfSome result (IsBetween (neg_ℤ (pos 2000000000000)) (pos 2000000000000)) }
+fn named(text: &[u8]) -> Option<Time>
+    ensures { result ≡ named_of text.now }
 {
     if text.len() != 24 {
         return None;
     }
     let day = named_date(text)?;
     let clock = clock(text)?;
-    Some(seconds_from(day, clock))
+    Some(Time {
+        seconds: seconds_from(day, clock),
+        nanoseconds: 0,
+        is_local: true,
+    })
 }
 
 #[tactic(auto, unfolding(crate::specs::Reading::place_among))]
@@ -233,17 +269,17 @@ fn named_date(text: &[u8]) -> Option<i64>
     }
 }
 
-/// The instant that a stamp says: `YYYY-MM-DD HH:MM:SS`, perhaps a fraction, and an offset as `+0100`,
-/// or `Www Mmm DD HH:MM:SS YYYY` in UTC. The text has neither blanks around it nor a line feed.
+/// The time that a stamp says: `YYYY-MM-DD HH:MM:SS`, perhaps a fraction, and an offset as `+0100`,
+/// or `Www Mmm DD HH:MM:SS YYYY` by a clock of no known zone. The text has neither blanks around it nor a line feed.
 pub fn read_stamp(text: &[u8]) -> Stamp
-    ensures instant { (z : ℤ) → (result ≡ Stamp.Instant z) ↔ IsStamp text.now z }
-    ensures unknown { (result ≡ Stamp.Unknown) ↔ ((z : ℤ) → ¬ IsStamp text.now z) }
+    ensures known { (t : Time) → (result ≡ Stamp.Known t) ↔ IsStamp text.now t }
+    ensures unknown { (result ≡ Stamp.Unknown) ↔ ((t : Time) → ¬ IsStamp text.now t) }
     ensures exact { result ≡ stamp_of text.now }
 {
     match numeric(text) {
-        Some(instant) => Stamp::Instant(instant),
+        Some(time) => Stamp::Known(time),
         None => match named(text) {
-            Some(instant) => Stamp::Instant(instant),
+            Some(time) => Stamp::Known(time),
             None => Stamp::Unknown,
         },
     }

@@ -3,14 +3,15 @@ use Rattle.std.proofs.Common.{◌≡◌, ◌&&◌, ◌*◌, ◌≤◌, ◌-◌, 
 use Rattle.std.specs.List.{slice_split, position_or_len, before_first, after_first}
 use Rattle.std.specs.Option.{ForSome, option_map_or}
 use Rattle.std.proofs.lemmas.List.Elements.{All-nil, All-cons}
+use Rattle.clap.specs.Lexer.{strip_byte}
 use Rattle.clap.specs.Words.{Row, Text}
 use Rattle.outside.specs.Files.{is_temp}
-use Rattle.patch_options.specs.Forms.{is_empty, is_lasting_name, is_name, number_of}
+use Rattle.patch_options.specs.Forms.{is_lasting_name, is_name, number_of}
 use Rattle.patch_options.specs.Table.{value_of, plan_in}
 use Rattle.patch_options.proofs.Lawful.{some_has, none_has, is_false, size_of}
 use Rattle.tool_words.specs.Asked.{asked, gen_of, is_gen, is_lawful, is_made, is_size, is_split_file, is_sync, is_within, number_in}
-use Rattle.tool_words.specs.PlainJobs.{AreRanges, IsLawfulToolJob, IsRange, IsSize}
-use Rattle.tool_words.specs.Ranges.{between, end_or, item_of, items_by, ordered, positive, positive_of, ranges_of, single}
+use Rattle.tool_words.specs.PlainJobs.{AreRanges, IsLawfulToolJob, IsRange, IsSize, PlainRanges}
+use Rattle.tool_words.specs.Ranges.{between, end_or, item_of, items_by, items_of, listed, ordered, ranges_of, single}
 use Rattle.tool_words.specs.Selecting.{name_in}
 use Rattle.tool_words.specs.declared.tools.Tool.{Tool}
 use Rattle.tool_words.specs.declared.tools.Tool.TheVariants.{Lsdiff, Filterdiff, Grepdiff, Splitdiff, Recountdiff, Patchgen, Reversediff, Patchstack}
@@ -26,52 +27,21 @@ map_has P Q f (Some x) h law = some_has Q (f x) (law x (h x refl))
 
 -- ---- ranges
 
-abbrev IsPositive : ℕ → Type 0
-IsPositive n = 1 ≤ n
-
-positive_has : (n : ℕ) → ForSome (positive n) IsPositive
-positive_has n = go (n == 0) refl
-  where
-    go : (b : Bool) → (n == 0) ≡ b → ForSome (if b then None else Some n) IsPositive
-    go true e = none_has IsPositive
-    go false e = some_has IsPositive n (grind arith)
-
-positive_of_has : (text : List ℕ) → ForSome (positive_of text) IsPositive
-unfolding positive_of
-positive_of_has text = go (number_of text)
-  where
-    go : (o : Option ℕ) → ForSome (option_and_then positive o) IsPositive
-    go None = none_has IsPositive
-    go (Some n) = positive_has n
-
-end_has : (value : ℕ) (text : List ℕ) → 1 ≤ value → ForSome (end_or value text) IsPositive
-end_has value text h = go (is_empty text)
-  where
-    go : (b : Bool) → ForSome (if b then Some value else positive_of text) IsPositive
-    go true = some_has IsPositive value h
-    go false = positive_of_has text
-
-ordered_has : (first last : ℕ) → 1 ≤ first → ForSome (ordered first last) IsRange
-ordered_has first last h = go (nat_le first last) refl
+ordered_has : (first last : ℕ) → ForSome (ordered first last) IsRange
+ordered_has first last = go (nat_le first last) refl
   where
     go : (b : Bool) → nat_le first last ≡ b → ForSome (if b then Some (first, last) else None) IsRange
-    go true e = some_has IsRange (first, last) (record { from_1 = h; ordered = grind arith })
+    go true e = some_has IsRange (first, last) (grind arith)
     go false e = none_has IsRange
 
 between_has : (front back : List ℕ) → ForSome (between front back) IsRange
 unfolding between
-between_has front back = go (is_empty front && is_empty back)
-  where
-    both_ends : ForSome (option_and_then (λ first. option_and_then (ordered first) (end_or (2 ^ 32 - 1) back)) (end_or 1 front)) IsRange
-    both_ends = then_has IsPositive IsRange (λ first. option_and_then (ordered first) (end_or (2 ^ 32 - 1) back)) (end_or 1 front) (end_has 1 front (omega arith))
-        (λ first h. then_has IsPositive IsRange (ordered first) (end_or (2 ^ 32 - 1) back) (end_has (2 ^ 32 - 1) back (omega arith)) (λ last k. ordered_has first last h))
-
-    go : (b : Bool) → ForSome (if b then None else option_and_then (λ first. option_and_then (ordered first) (end_or (2 ^ 32 - 1) back)) (end_or 1 front)) IsRange
-    go true = none_has IsRange
-    go false = both_ends
+between_has front back =
+    then_has (λ n. Unit {0}) IsRange (λ first. option_and_then (ordered first) (end_or (2 ^ 32 - 1) back)) (end_or 0 front) (λ n is. tt)
+    (λ first h. then_has (λ n. Unit {0}) IsRange (ordered first) (end_or (2 ^ 32 - 1) back) (λ n is. tt) (λ last k. ordered_has first last))
 
 single_has : (text : List ℕ) → ForSome (single text) IsRange
-single_has text = map_has IsPositive IsRange (λ n. (n, n)) (positive_of text) (positive_of_has text) (λ n h. record { from_1 = h; ordered = omega arith })
+single_has text = map_has (λ n. Unit {0}) IsRange (λ n. (n, n)) (number_of text) (λ n is. tt) (λ n h. omega arith)
 
 item_has : (text : List ℕ) → ForSome (item_of text) IsRange
 unfolding item_of
@@ -86,10 +56,21 @@ items_have [] = some_has (All IsRange) [] (All-nil IsRange)
 items_have (text ∷ texts) = then_has IsRange (All IsRange) (λ item. option_map (λ items. item ∷ items) (items_by texts)) (item_of text) (item_has text)
     (λ item h. map_has (All IsRange) (All IsRange) (λ items. item ∷ items) (items_by texts) (items_have texts) (λ items k. All-cons IsRange item items h k))
 
+abbrev AreOrdered : PlainRanges → Type 0
+AreOrdered ranges = All IsRange ranges.items
+
+listed_have : (others : Bool) (text : List ℕ) → ForSome (listed others text) AreOrdered
+unfolding items_of
+listed_have others text = map_has (All IsRange) AreOrdered (λ items. record { items = items; others = others }) (items_of text) (items_have (slice_split (λ b. b == 44) text)) (λ items h. h)
+
 ranges_have : (value : Option Text) → AreRanges (option_and_then ranges_of value)
 unfolding ranges_of
-ranges_have None = none_has (All IsRange)
-ranges_have (Some text) = items_have (slice_split (λ b. b == 44) text)
+ranges_have None = none_has AreOrdered
+ranges_have (Some text) = go (strip_byte 120 text)
+  where
+    go : (o : Option (List ℕ)) → ForSome (option_map_or (listed true) o (listed false text)) AreOrdered
+    go None = listed_have false text
+    go (Some list) = listed_have true list
 
 -- ---- names
 

@@ -2,7 +2,7 @@
 use Rattle.std.proofs.Common.{◌≡◌, ◌⊎◌, ◌∙◌, ◌||◌, true, false, List, Option, ap, codes, is_some, option_map, refl, sym}
 use Rattle.clap.specs.Words.{Row, Text}
 use Rattle.patch_options.specs.Forms.{is_name}
-use Rattle.patch_options.specs.Table.{is_used, value_of, has_form}
+use Rattle.patch_options.specs.Table.{value_of, has_form}
 use Rattle.patch_options.proofs.Refusing.{refused_as, no_left, no_right}
 use Rattle.tool_words.specs.Selecting.{is_number, is_select, name_in, number_or_0, patterns, select_of}
 use Rattle.tool_words.specs.PlainJobs.{PlainSelect}
@@ -17,7 +17,7 @@ select_is_lawful rows strip include exclude = rw (strip, include, exclude) refl
 -- the file patches that are meant, field by field
 pub selected : (rows : List Row) (s : PlainSelect) {given other : Option Text} → s.strip ≡ number_or_0 rows (codes "strip-match") → s.include ≡ patterns rows (codes "include") → s.exclude ≡ patterns rows (codes "exclude")
     → s.include_file ≡ option_map name_in given → given ≡ value_of rows (codes "include-from-file") → s.exclude_file ≡ option_map name_in other → other ≡ value_of rows (codes "exclude-from-file")
-    → s.only_included ≡ (is_some (value_of rows (codes "include")) || is_some (value_of rows (codes "include-from-file"))) → s.skip_binary ≡ is_used rows (codes "skip-binary") → s ≡ select_of rows
+    → s.only_included ≡ (is_some (value_of rows (codes "include")) || is_some (value_of rows (codes "include-from-file"))) → s.skip_binary ≡ true → s ≡ select_of rows
 unfolding select_of
 selected rows s strip include exclude include_file given exclude_file other only_included skip_binary = λ i. record {
   strip = strip i;

@@ -1,5 +1,5 @@
 -- What the words of each tool ask for, over what `clap` matched.
-use Rattle.std.specs.Prelude.{ℕ, ◌*◌, List, [], codes, nat_le, Bool, false, not, ◌&&◌, ◌||◌, if◌then◌else◌, bytes_eq, Option, None, Some, is_some, option_and_then, unwrap_or}
+use Rattle.std.specs.Prelude.{ℕ, ◌*◌, List, [], codes, nat_le, Bool, true, false, not, ◌&&◌, ◌||◌, if◌then◌else◌, bytes_eq, Option, None, Some, is_some, option_and_then, unwrap_or}
 use Rattle.std.specs.Option.{option_map_or}
 use Rattle.clap.specs.Words.{Row, Text}
 use Rattle.hunk_core.specs.declared.Form.{Form}
@@ -43,6 +43,7 @@ list_of rows = record {
   input = input_in rows;
   select = select_of rows;
   shown = shown_of rows (is_empty_absent rows);
+  number_files = is_used rows (codes "number-files");
 }
 
 -- ---- `filterdiff`
@@ -76,6 +77,7 @@ filter_of rows = record {
   lines = option_and_then ranges_of (value_of rows (codes "lines"));
   files = option_and_then ranges_of (value_of rows (codes "files"));
   format = option_and_then form_of (value_of rows (codes "format"));
+  verbose = is_used rows (codes "verbose");
 }
 
 -- ---- `grepdiff`
@@ -139,7 +141,7 @@ abbrev pub split_of : List Row → PlainSplitJob
 split_of rows = record {
   input = option_map_or name_in (value_of rows (codes "file")) [];
   every = is_used rows (codes "every");
-  skip_binary = is_used rows (codes "skip-binary");
+  skip_binary = true;
   sync = sync_in rows;
 }
 
@@ -177,21 +179,21 @@ gen_of rows = record {
 
 -- ---- `patchstack`
 
--- what is done, by the word for it
-unfoldable pub stack_op_of : List ℕ → Option StackOp
-stack_op_of text = if bytes_eq text (codes "push") then Some Push
+-- what is done, by the word for it; all patches can be applied or taken back, and not counted
+unfoldable pub stack_op_of : Bool → List ℕ → Option StackOp
+stack_op_of all text = if bytes_eq text (codes "push") then Some Push
     else if bytes_eq text (codes "pop") then Some Pop
-    else if bytes_eq text (codes "applied") then Some Applied
+    else if bytes_eq text (codes "applied") then (if all then None else Some Applied)
     else None
 
 abbrev pub stack_op_in : List Row → Option StackOp
-stack_op_in rows = option_and_then stack_op_of (value_of rows (codes "operation"))
+stack_op_in rows = option_and_then (stack_op_of (is_used rows (codes "all"))) (value_of rows (codes "operation"))
 
 abbrev pub is_stack : List Row → Bool
 is_stack rows = is_sync rows && is_some (stack_op_in rows)
 
 abbrev pub stack_of : List Row → StackJob
-stack_of rows = record { op = unwrap_or (stack_op_in rows) Applied; sync = sync_in rows }
+stack_of rows = record { op = unwrap_or (stack_op_in rows) Applied; all = is_used rows (codes "all"); sync = sync_in rows }
 
 -- ---- all of them
 

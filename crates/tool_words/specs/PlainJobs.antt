@@ -32,8 +32,13 @@ pub record PlainSelect : Type 0 where
   pub skip_binary : Bool
 
 -- numbers from a first up to and with a last
-abbrev pub PlainRanges : Type 0
-PlainRanges = List (ℕ × ℕ)
+abbrev pub PlainItems : Type 0
+PlainItems = List (ℕ × ℕ)
+
+-- the numbers of some items, or all other ones; each field is that of `Ranges`
+pub record PlainRanges : Type 0 where
+  pub items : PlainItems
+  pub others : Bool
 
 -- how a file patch is shown; each field is that of `Shown`
 pub record PlainShown : Type 0 where
@@ -51,6 +56,7 @@ pub record PlainListJob : Type 0 where
   pub input : Input
   pub select : PlainSelect
   pub shown : PlainShown
+  pub number_files : Bool
 
 -- what is left of a text; each field is that of `FilterJob`
 pub record PlainFilterJob : Type 0 where
@@ -60,6 +66,7 @@ pub record PlainFilterJob : Type 0 where
   pub lines : Option PlainRanges
   pub files : Option PlainRanges
   pub format : Option Form
+  pub verbose : Bool
 
 -- what is looked for; each field is that of `GrepJob`
 pub record PlainGrepJob : Type 0 where
@@ -110,16 +117,16 @@ plain_select s = record {
 }
 
 abbrev pub plain_ranges : Option Ranges → Option PlainRanges
-plain_ranges ranges = option_map (λ r. r.items.items) ranges
+plain_ranges ranges = option_map (λ r. record { items = r.items.items; others = r.others }) ranges
 
 abbrev pub plain_shown : Shown → PlainShown
 plain_shown s = record { numbers = s.numbers; hunks = s.hunks; status = s.status; empty_absent = s.empty_absent; strip = s.strip; prefix = s.prefix.items; label = s.label.items; hunk_label = s.hunk_label.items }
 
 abbrev pub plain_list_job : ListJob → PlainListJob
-plain_list_job j = record { input = j.input; select = plain_select j.select; shown = plain_shown j.shown }
+plain_list_job j = record { input = j.input; select = plain_select j.select; shown = plain_shown j.shown; number_files = j.number_files }
 
 abbrev pub plain_filter_job : FilterJob → PlainFilterJob
-plain_filter_job j = record { input = j.input; select = plain_select j.select; hunks = plain_ranges j.hunks; lines = plain_ranges j.lines; files = plain_ranges j.files; format = j.format }
+plain_filter_job j = record { input = j.input; select = plain_select j.select; hunks = plain_ranges j.hunks; lines = plain_ranges j.lines; files = plain_ranges j.files; format = j.format; verbose = j.verbose }
 
 abbrev pub plain_grep_job : GrepJob → PlainGrepJob
 plain_grep_job j = record { input = j.input; select = plain_select j.select; pattern = string_bytes j.pattern; searched = j.searched; output = j.output; shown = plain_shown j.shown }
@@ -142,13 +149,12 @@ plain_tool_job (Stack j) = stack_job j
 
 -- ---- the jobs that a tool may get
 
--- from a first number, which isn't 0, up to and with a last
-pub record IsRange (range : ℕ × ℕ) : Type 0 where
-  pub from_1 : 1 ≤ range.0
-  pub ordered : range.0 ≤ range.1
+-- from a first number up to and with a last
+abbrev pub IsRange : ℕ × ℕ → Type 0
+IsRange range = range.0 ≤ range.1
 
 abbrev pub AreRanges : Option PlainRanges → Type 0
-AreRanges ranges = ForSome ranges (All IsRange)
+AreRanges ranges = ForSome ranges (λ r. All IsRange r.items)
 
 -- the ranges of a filter
 pub record HasRanges (j : PlainFilterJob) : Type 0 where

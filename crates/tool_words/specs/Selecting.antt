@@ -1,10 +1,10 @@
 -- Which file patches are meant, and the text that is read, over what `clap` matched.
-use Rattle.std.specs.Prelude.{ℕ, List, [], codes, Bool, ◌&&◌, ◌||◌, is_some, option_map, option_and_then, unwrap_or}
+use Rattle.std.specs.Prelude.{ℕ, List, [], codes, Bool, true, ◌&&◌, ◌||◌, is_some, option_map, option_and_then, unwrap_or}
 use Rattle.clap.specs.Words.{Row, Text}
 use Rattle.outside.specs.Names.{given_form}
 use Rattle.patch_options.specs.Forms.{number_of, is_name, is_patch_file}
 use Rattle.patch_options.specs.Simple.{values_of}
-use Rattle.patch_options.specs.Table.{is_used, value_of, has_form, input_of}
+use Rattle.patch_options.specs.Table.{value_of, has_form, input_of}
 use Rattle.patch_options.specs.declared.options.Input.{Input}
 use Rattle.tool_words.specs.PlainJobs.{PlainSelect}
 
@@ -27,6 +27,7 @@ unfoldable pub is_select : List Row → Bool
 is_select rows = has_form is_number (value_of rows (codes "strip-match"))
     && (has_form is_name (value_of rows (codes "include-from-file")) && has_form is_name (value_of rows (codes "exclude-from-file")))
 
+-- nothing is applied by a filter, so binary changes are passed over, with `--skip-binary` and without
 unfoldable pub select_of : List Row → PlainSelect
 select_of rows = record {
   strip = number_or_0 rows (codes "strip-match");
@@ -35,7 +36,7 @@ select_of rows = record {
   include_file = option_map name_in (value_of rows (codes "include-from-file"));
   exclude_file = option_map name_in (value_of rows (codes "exclude-from-file"));
   only_included = is_some (value_of rows (codes "include")) || is_some (value_of rows (codes "include-from-file"));
-  skip_binary = is_used rows (codes "skip-binary");
+  skip_binary = true;
 }
 
 -- the text that is read: a file, or standard input

@@ -23,12 +23,13 @@ subject_table = long_switch (codes "skip-binary") ∷ input_table
 abbrev pub shown_words : List PlainWord
 shown_words = switch 115 (codes "status") ∷ switch 110 (codes "line-number") ∷ switch 118 (codes "verbose") ∷ switch 72 (codes "with-filename") ∷ switch 104 (codes "no-filename") ∷ named (codes "strip") ∷ named (codes "addprefix") ∷ []
 
--- E 69
+-- N 78, E 69
 abbrev pub list_table : List PlainWord
-list_table = shown_words ++ switch 69 (codes "empty-files-as-absent") ∷ long_switch (codes "empty-files-as-removed") ∷ (name_words ++ file_words) ++ subject_table
+list_table = shown_words ++ switch 78 (codes "number-files") ∷ switch 69 (codes "empty-files-as-absent") ∷ long_switch (codes "empty-files-as-removed") ∷ (name_words ++ file_words) ++ subject_table
 
+-- F 70, # 35, v 118
 abbrev pub filter_table : List PlainWord
-filter_table = name_words ++ file_words ++ (named (codes "files") ∷ named (codes "hunks") ∷ named (codes "lines") ∷ named (codes "format") ∷ subject_table)
+filter_table = name_words ++ file_words ++ (option 70 (codes "files") ∷ option 35 (codes "hunks") ∷ named (codes "lines") ∷ named (codes "format") ∷ switch 118 (codes "verbose") ∷ subject_table)
 
 -- E 69
 abbrev pub grep_table : List PlainWord
@@ -42,4 +43,4 @@ abbrev pub gen_table : List PlainWord
 gen_table = operand (codes "seed") ∷ operand (codes "files") ∷ operand (codes "lines") ∷ named (codes "plan") ∷ named (codes "buffer") ∷ named (codes "sync") ∷ []
 
 abbrev pub stack_table : List PlainWord
-stack_table = operand (codes "operation") ∷ named (codes "sync") ∷ []
+stack_table = operand (codes "operation") ∷ switch 97 (codes "all") ∷ named (codes "sync") ∷ []

@@ -8,10 +8,7 @@ use patch_options::usage_of;
 use std::alloc::{AllocError, Global};
 
 /// The words that each tool has.
-const BEHIND: &str = "
-  --help                      this text
-  --version                   the version
-";
+const BEHIND: &str = "  --help, --version           this text, or the version\n";
 
 /// What tells the words of a tool, in lines: how it is called, what it does, and each word with what it gives.
 pub fn usage(alloc: Global, tool: Tool) -> Result<String, AllocError>
@@ -29,7 +26,8 @@ fn front(tool: Tool) -> &'static str {
         Tool::Filterdiff => {
             "Usage: filterdiff [OPTION]... [FILE]...\n\
             Writes the file patches and hunks of patch texts that are meant.\n\
-            A RANGE has items N, N-M, N- or -M, with commas between them.\n"
+            A RANGE has items N, N-M, N-, -M or -, with commas between them; x in front\n\
+            takes all numbers but those.\n"
         }
         Tool::Grepdiff => {
             "Usage: grepdiff [OPTION]... REGEX [FILE]...\n\
@@ -52,7 +50,7 @@ fn front(tool: Tool) -> &'static str {
             Turns a patch text round, so that it takes back what it did.\n"
         }
         Tool::Patchstack => {
-            "Usage: patchstack push|pop|applied\n\
+            "Usage: patchstack [OPTION]... push|pop|applied\n\
             Applies and takes back the patches that patches/series lists.\n"
         }
     }

@@ -23,10 +23,12 @@ pub struct Select {
     pub skip_binary: bool,
 }
 
-/// Numbers, as ranges from the first up to and with the last.
+/// Numbers, as ranges from the first up to and with the last, or all other numbers.
 #[derive(Drop, Debug)]
 pub struct Ranges {
     pub items: Vec<(u32, u32)>,
+    /// All numbers but those of the items are meant.
+    pub others: bool,
 }
 
 /// How a list shows a file patch.
@@ -56,6 +58,8 @@ pub struct ListJob {
     pub input: Input,
     pub select: Select,
     pub shown: Shown,
+    /// Whether the number of a file patch in its text is shown.
+    pub number_files: bool,
 }
 
 /// One command of `filterdiff`.
@@ -71,6 +75,8 @@ pub struct FilterJob {
     pub files: Option<Ranges>,
     /// The form that is written; none: that of the text.
     pub format: Option<Form>,
+    /// The text outside of file patches is written, also where no name is excluded.
+    pub verbose: bool,
 }
 
 /// Which lines of a hunk are searched.
@@ -150,6 +156,8 @@ pub enum StackOp {
 #[derive(Clone, Copy, Debug)]
 pub struct StackJob {
     pub op: StackOp,
+    /// All patches are applied or taken back, one after the other.
+    pub all: bool,
     pub sync: SyncKind,
 }
 

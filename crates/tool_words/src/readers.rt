@@ -85,6 +85,7 @@ fn filter_of(alloc: Global, matches: &ArgMatches<'_>) -> Result<ToolJob, WordFau
             lines: ranges.lines,
             files: ranges.files,
             format: form_in(matches),
+            verbose: is_used(matches, "verbose"),
         })),
         Err(fault) => {
             drop(ranges);
@@ -264,7 +265,7 @@ fn split_of(alloc: Global, matches: &ArgMatches<'_>) -> Result<ToolJob, WordFaul
         Ok(input) => Ok(ToolJob::Split(SplitJob {
             input,
             every: is_used(matches, "every"),
-            skip_binary: is_used(matches, "skip-binary"),
+            skip_binary: true,
             sync: sync_in(matches),
         })),
         Err(fault) => Err(fault),
@@ -353,6 +354,7 @@ fn stack_of(matches: &ArgMatches<'_>) -> Result<ToolJob, WordFault>
     match stack_op_in(matches) {
         Some(op) => Ok(ToolJob::Stack(StackJob {
             op,
+            all: is_used(matches, "all"),
             sync: sync_in(matches),
         })),
         None => Err(WordFault::Usage),
@@ -363,19 +365,19 @@ fn stack_op_in(matches: &ArgMatches<'_>) -> Option<StackOp>
     ensures { result ≡ stack_op_in (rows_in matches.now) }
 {
     match value_of(matches, "operation") {
-        Some(text) => stack_op_of(text),
+        Some(text) => stack_op_of(text, is_used(matches, "all")),
         None => None,
     }
 }
 
 #[tactic(auto, unfolding(crate::specs::Asked::stack_op_of))]
-fn stack_op_of(text: &str) -> Option<StackOp>
-    ensures { result ≡ stack_op_of text.now }
+fn stack_op_of(text: &str, all: bool) -> Option<StackOp>
+    ensures { result ≡ stack_op_of all text.now }
 {
     match text {
         "push" => Some(StackOp::Push),
         "pop" => Some(StackOp::Pop),
-        "applied" => Some(StackOp::Applied),
+        "applied" => { if all { None } else { Some(StackOp::Applied) } }
         _ => None,
     }
 }

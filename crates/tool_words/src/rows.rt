@@ -30,16 +30,16 @@ pub const INCLUDE_FILE: Word = Word {
     form: WordForm::Value,
     letter: Some('I'),
     name: "include-from-file",
-    shown: "-I FILE, --include-from-file=FILE",
-    help: "include by the lines of FILE too",
+    shown: "-I FILE",
+    help: "take by the lines of FILE (--include-from-file)",
 };
 
 pub const EXCLUDE_FILE: Word = Word {
     form: WordForm::Value,
     letter: Some('X'),
     name: "exclude-from-file",
-    shown: "-X FILE, --exclude-from-file=FILE",
-    help: "exclude by the lines of FILE too",
+    shown: "-X FILE",
+    help: "leave out by those of FILE (--exclude-from-file)",
 };
 
 pub const STATUS: Word = Word {
@@ -47,11 +47,7 @@ pub const STATUS: Word = Word {
     letter: Some('s'),
     name: "status",
     shown: "-s, --status",
-    help: concat!(
-        "show + for a file that is made, - for one that\n",
-        "                              ",
-        "goes, else !"
-    ),
+    help: "show + for a new file, - for one that goes, or !",
 };
 
 pub const LINE_NUMBER: Word = Word {
@@ -59,7 +55,7 @@ pub const LINE_NUMBER: Word = Word {
     letter: Some('n'),
     name: "line-number",
     shown: "-n, --line-number",
-    help: "show the number of the line of the names",
+    help: "show the number of the first line",
 };
 
 pub const VERBOSE: Word = Word {
@@ -68,6 +64,18 @@ pub const VERBOSE: Word = Word {
     name: "verbose",
     shown: "-v, --verbose",
     help: "with -n show the lines of hunks too",
+};
+
+pub const ALL_TEXT: Word = Word {
+    form: WordForm::Switch,
+    letter: Some('v'),
+    name: "verbose",
+    shown: "-v, --verbose",
+    help: concat!(
+        "write the text outside of file patches too, as\n",
+        "                              ",
+        "with -x"
+    ),
 };
 
 pub const WITH_FILE: Word = Word {
@@ -102,16 +110,20 @@ pub const ADD_PREFIX: Word = Word {
     help: "show TEXT in front of names",
 };
 
+pub const NUMBER_FILES: Word = Word {
+    form: WordForm::Switch,
+    letter: Some('N'),
+    name: "number-files",
+    shown: "-N, --number-files",
+    help: "show the number of the file patch in its text",
+};
+
 pub const EMPTY_ABSENT: Word = Word {
     form: WordForm::Switch,
     letter: Some('E'),
     name: "empty-files-as-absent",
     shown: "-E, --empty-files-as-absent",
-    help: concat!(
-        "with -s show + or - also for a file that is\n",
-        "                              ",
-        "empty before or after"
-    ),
+    help: "with -s an empty file counts as absent",
 };
 
 pub const EMPTY_REMOVED: Word = Word {
@@ -124,9 +136,9 @@ pub const EMPTY_REMOVED: Word = Word {
 
 pub const HUNKS: Word = Word {
     form: WordForm::Value,
-    letter: None,
+    letter: Some('#'),
     name: "hunks",
-    shown: "--hunks=RANGE",
+    shown: "-# RANGE, --hunks=RANGE",
     help: "keep only these hunks of each file patch",
 };
 
@@ -140,9 +152,9 @@ pub const LINES: Word = Word {
 
 pub const FILES: Word = Word {
     form: WordForm::Value,
-    letter: None,
+    letter: Some('F'),
     name: "files",
-    shown: "--files=RANGE",
+    shown: "-F RANGE, --files=RANGE",
     help: "take only file patches with these numbers",
 };
 
@@ -167,23 +179,15 @@ pub const MATCHING: Word = Word {
     letter: None,
     name: "output-matching",
     shown: "--output-matching=hunk|file",
-    help: concat!(
-        "write the hunks or the file patch with a match,\n",
-        "                              ",
-        "not the name"
-    ),
+    help: "write hunks or file patches with a match",
 };
 
 pub const ONLY_MATCH: Word = Word {
     form: WordForm::Value,
     letter: None,
     name: "only-match",
-    shown: "--only-match=rem|add|mod|all",
-    help: concat!(
-        "search only removed, added, or removed and added\n",
-        "                              ",
-        "lines (all)"
-    ),
+    shown: "--only-match=WHAT",
+    help: "search only rem, add, mod or all (all) lines",
 };
 
 pub const EVERY: Word = Word {
@@ -223,7 +227,7 @@ pub const SKIP_BINARY: Word = Word {
     letter: None,
     name: "skip-binary",
     shown: "--skip-binary",
-    help: "pass over binary changes, don't refuse the text",
+    help: "changes nothing: binary changes are passed over",
 };
 
 pub const FILE: Word = Word {
@@ -231,11 +235,7 @@ pub const FILE: Word = Word {
     letter: None,
     name: "file",
     shown: "[FILE]...",
-    help: concat!(
-        "the patch texts, one behind the other; standard\n",
-        "                              ",
-        "input without one, or where it is -"
-    ),
+    help: "patch texts; standard input without one, or as -",
 };
 
 pub const ONE_FILE: Word = Word {
@@ -304,4 +304,12 @@ pub const OPERATION: Word = Word {
         "                              ",
         "tell how many are applied"
     ),
+};
+
+pub const ALL: Word = Word {
+    form: WordForm::Switch,
+    letter: Some('a'),
+    name: "all",
+    shown: "-a, --all",
+    help: "apply all patches, or take all of them back",
 };

@@ -9,7 +9,7 @@ ghost use Rattle.tool_words.specs.Selecting.{is_input, input_in, is_select, numb
 use crate::Select;
 use clap::ArgMatches;
 use patch_options::{
-    Input, WordFault, input_of, is_number, is_used, number_of, read_name, value_of, values_of,
+    Input, WordFault, input_of, is_number, number_of, read_name, value_of, values_of,
 };
 use std::alloc::{AllocError, Global};
 
@@ -64,7 +64,7 @@ fn read_select(alloc: Global, matches: &ArgMatches<'_>) -> Result<Select, WordFa
             include_file,
             exclude_file,
             only_included: is_one_given(matches, "include", "include-from-file"),
-            skip_binary: is_used(matches, "skip-binary"),
+            skip_binary: true,
         }),
         Err(_) => {
             drop(include);

@@ -1,7 +1,7 @@
 //! How a list shows file patches, by what was matched in the words.
-ghost use Rattle.std.specs.Prelude.{◌≡◌, ◌⊎◌, [], true, false, IfOk, IfErr, unwrap_or};
+ghost use Rattle.std.specs.Prelude.{◌≡◌, ◌⊎◌, [], true, false, codes, IfOk, IfErr, unwrap_or};
 ghost use Rattle.patch_options.specs.Simple.{rows_in};
-ghost use Rattle.patch_options.specs.Table.{text_of, value_of};
+ghost use Rattle.patch_options.specs.Table.{is_used, text_of, value_of};
 ghost use Rattle.tool_words.specs.Asked.{is_list};
 ghost use Rattle.tool_words.specs.PlainJobs.{plain_select, plain_shown};
 ghost use Rattle.tool_words.specs.Selecting.{input_in, select_of};
@@ -22,6 +22,7 @@ pub fn read_list(
     ensures input { IfOk result (λ j. j.input ≡ input_in (rows_in matches.now)) }
     ensures select { IfOk result (λ j. plain_select j.select ≡ select_of (rows_in matches.now)) }
     ensures shown { IfOk result (λ j. plain_shown j.shown ≡ shown_of (rows_in matches.now) empty_absent) }
+    ensures numbered { IfOk result (λ j. j.number_files ≡ is_used (rows_in matches.now) (codes "number-files")) }
     ensures lawful { IfOk result (λ j. is_list (rows_in matches.now) ≡ true) }
     ensures refused { IfErr result (λ fault. (fault ≡ WordFault.Memory) ⊎ ((fault ≡ WordFault.Usage) × (is_list (rows_in matches.now) ≡ false))) }
 {
@@ -31,6 +32,7 @@ pub fn read_list(
             input,
             select,
             shown,
+            number_files: is_used(matches, "number-files"),
         }),
         Err(fault) => {
             drop(shown);

@@ -4,14 +4,15 @@ ghost use Rattle.patch_options.specs.Simple.{plain_table};
 ghost use Rattle.tool_words.specs.Tables.{list_table, filter_table, grep_table, split_table, input_table, gen_table, stack_table};
 
 use crate::rows::{
-    ADD_PREFIX, BUFFER, EMPTY_ABSENT, EMPTY_REMOVED, EVERY, EXCLUDE, EXCLUDE_FILE, EXTENDED, FILE,
-    FILE_COUNT, FILES, FORMAT, HUNKS, INCLUDE, INCLUDE_FILE, LINE_COUNT, LINE_NUMBER, LINES,
-    MATCHING, NO_FILE, ONE_FILE, ONLY_MATCH, OPERATION, PLAN, REGEX, SEED, SHOWN_STRIP,
-    SKIP_BINARY, SPLIT_FILE, STATUS, STRIP_MATCH, SYNC, VERBOSE, WITH_FILE,
+    ADD_PREFIX, ALL, ALL_TEXT, BUFFER, EMPTY_ABSENT, EMPTY_REMOVED, EVERY, EXCLUDE, EXCLUDE_FILE,
+    EXTENDED, FILE, FILE_COUNT, FILES, FORMAT, HUNKS, INCLUDE, INCLUDE_FILE, LINE_COUNT,
+    LINE_NUMBER, LINES, MATCHING, NO_FILE, NUMBER_FILES, ONE_FILE, ONLY_MATCH, OPERATION, PLAN,
+    REGEX, SEED, SHOWN_STRIP, SKIP_BINARY, SPLIT_FILE, STATUS, STRIP_MATCH, SYNC, VERBOSE,
+    WITH_FILE,
 };
 use patch_options::Group;
 
-static LIST: [Group; 3] = [
+static LIST: [Group; 2] = [
     Group {
         heading: "What is shown:\n",
         words: &[
@@ -22,17 +23,22 @@ static LIST: [Group; 3] = [
             NO_FILE,
             SHOWN_STRIP,
             ADD_PREFIX,
+            NUMBER_FILES,
             EMPTY_ABSENT,
             EMPTY_REMOVED,
         ],
     },
     Group {
         heading: "Which file patches:\n",
-        words: &[STRIP_MATCH, INCLUDE, EXCLUDE, INCLUDE_FILE, EXCLUDE_FILE],
-    },
-    Group {
-        heading: "Input:\n",
-        words: &[SKIP_BINARY, FILE],
+        words: &[
+            STRIP_MATCH,
+            INCLUDE,
+            EXCLUDE,
+            INCLUDE_FILE,
+            EXCLUDE_FILE,
+            SKIP_BINARY,
+            FILE,
+        ],
     },
 ];
 
@@ -54,7 +60,7 @@ static FILTER: [Group; 4] = [
     },
     Group {
         heading: "Output:\n",
-        words: &[FORMAT],
+        words: &[FORMAT, ALL_TEXT],
     },
     Group {
         heading: "Input:\n",
@@ -62,9 +68,9 @@ static FILTER: [Group; 4] = [
     },
 ];
 
-static GREP: [Group; 4] = [
+static GREP: [Group; 2] = [
     Group {
-        heading: "Which file patches:\n",
+        heading: "",
         words: &[
             STRIP_MATCH,
             INCLUDE,
@@ -75,7 +81,7 @@ static GREP: [Group; 4] = [
         ],
     },
     Group {
-        heading: "How their names are shown:\n",
+        heading: "What is shown, and what is read:\n",
         words: &[
             STATUS,
             LINE_NUMBER,
@@ -84,15 +90,12 @@ static GREP: [Group; 4] = [
             NO_FILE,
             SHOWN_STRIP,
             ADD_PREFIX,
+            MATCHING,
+            EXTENDED,
+            REGEX,
+            SKIP_BINARY,
+            FILE,
         ],
-    },
-    Group {
-        heading: "Output:\n",
-        words: &[MATCHING],
-    },
-    Group {
-        heading: "Input:\n",
-        words: &[EXTENDED, REGEX, SKIP_BINARY, FILE],
     },
 ];
 
@@ -128,7 +131,7 @@ static GEN: [Group; 3] = [
 
 static STACK: [Group; 1] = [Group {
     heading: "",
-    words: &[OPERATION, SYNC],
+    words: &[OPERATION, ALL, SYNC],
 }];
 
 /// The words of `lsdiff`.

@@ -8,7 +8,7 @@ ghost use Rattle.patch_set.specs.SetView.{IsRead, IsWhole, Meets};
 ghost use Rattle.whole_filters.specs.Texts.{defaults, dry_defaults};
 
 use filter_choice::{Digest, Outline, read_digest, read_outline};
-use patch_options::{Input, Options, PlanKind, SyncKind};
+use patch_options::{BackupNumbers, FileTimes, Input, Options, PlanKind, ReadOnlyFiles, SyncKind};
 use patch_set::{PatchSet, SetFault, read_set};
 use std::alloc::Global;
 
@@ -66,6 +66,8 @@ fn default_options(skip_binary: bool) -> Options
         mismatch_backup: true,
         suffix: None,
         prefix: None,
+        base_prefix: None,
+        numbers: BackupNumbers::Never,
         dir: None,
         file: None,
         input: Input::Standard,
@@ -78,6 +80,8 @@ fn default_options(skip_binary: bool) -> Options
         keep_returns: false,
         skip_binary,
         dry_run: true,
+        read_only: ReadOnlyFiles::Told,
+        times: FileTimes::Written,
         follow_links: false,
         silent: false,
         verbose: false,

@@ -9,9 +9,9 @@ use tool_words::read_tool_words;
 const PLAIN: &str =
     "Ok(Patch(Options { only: None, strip: None, fuzz: 2, reverse: false, force: false, \
     batch: false, forward: false, loose: false, remove_empty: false, backup: false, \
-    mismatch_backup: true, suffix: None, prefix: None, dir: None, file: None, \
+    mismatch_backup: true, suffix: None, prefix: None, base_prefix: None, numbers: Never, dir: None, file: None, \
     input: Standard, output: None, reject: None, no_rejects: false, reject_form: None, \
-    define: None, posix: false, keep_returns: false, skip_binary: false, dry_run: false, follow_links: false, silent: false, verbose: false, plan: Auto, buffer: 4294967295, sync: Each }))";
+    define: None, posix: false, keep_returns: false, skip_binary: false, dry_run: false, read_only: Told, times: Written, follow_links: false, silent: false, verbose: false, plan: Auto, buffer: 4294967295, sync: Each }))";
 
 /// What the words of a row give.
 fn answer(alloc: Global, row: &str) -> Result<String, AllocError> {

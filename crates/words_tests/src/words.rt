@@ -134,6 +134,27 @@ patch|--get=0 =>
 patch|--binary => keep_returns: true
 patch|--skip-binary => skip_binary: true
 patch|--skip-binary|-s|-p1 => strip: Some(1), skip_binary: true, silent: true
+patch|-V|no|-V|ne|-V|o|-Vs =>
+patch|-V|t => numbers: Always
+patch|-V|nu => numbers: Always
+patch|-Vnumbered => numbers: Always
+patch|-b|--version-control=numbered => backup: true, numbers: Always
+patch|-V|exist => numbers: Existing
+patch|-Ve => numbers: Existing
+patch|--version-control=nil => numbers: Existing
+patch|--version-control|ni => numbers: Existing
+patch|-Vt|-V|existing|-Voff =>
+patch|--version-control=numbered|-z|.x => suffix: Some(".x")
+patch|-B|old/|-Vt => prefix: Some("old/")
+patch|-V|existing|-Y|.o. => base_prefix: Some(".o.")
+patch|-Vt|-B| => prefix: Some("")
+patch|-Y|d/ => base_prefix: Some("d/")
+patch|-Yb => base_prefix: Some("b")
+patch|--basename-prefix=.old/x => base_prefix: Some(".old/x")
+patch|--basename-prefix|b|-Bp/|-zs => suffix: Some("s"), prefix: Some("p/"), base_prefix: Some("b")
+patch|-Y| => base_prefix: Some("")
+patch|-Y|.. => base_prefix: Some("..")
+patch|-Ya|-Y|b => base_prefix: Some("b")
 patch|-t|-F|0|-N|-p1|-u|-V|never|-E|-b|-B|.pc/x/|--reject-file=- => only: Some(Unified), strip: Some(1), fuzz: 0, batch: true, forward: true, remove_empty: true, backup: true, prefix: Some(".pc/x/"), no_rejects: true
 patch|--posix => mismatch_backup: false, posix: true
 patch|--posix|--backup-if-mismatch => posix: true
@@ -183,21 +204,32 @@ patch|f|--dry|--|--rev => file: Some("f"), input: File("--rev"), dry_run: true
 patch|-g1|-g-1|--get=+5|--get|18446744073709551617 =>
 patch|-V|none|-V|off|-Vnev|--version-c=s =>
 patch|--quoting-style=literal|--quoting-style=shell|--quoting-style=shell-always|--quoting-style=c|--quot=escape =>
-patch|--read-only=warn|--read-only=ignore =>
+patch|--read-only=warn =>
+patch|--read-only=warn|--read-only=ignore => read_only: Replaced
+patch|--read-only=ignore|--read-only|fail => read_only: Refused
+patch|--read-only=fail|--read-only=warn =>
+patch|-T => times: Local
+patch|-Z => times: Utc
+patch|-T|-Z => times: Utc
+patch|-ZT => times: Utc
+patch|--set-time => times: Local
+patch|--set-utc|--set-time => times: Utc
+patch|--set-t|-R => reverse: true, times: Local
 patch|--sync=none => sync: Never
 patch|-o|- => output: Some("-")
 patch|--follow-symlinks => follow_links: true
 patch|-x3|--debug=1 =>
 patch|--sync|none|--sync=each =>
-lsdiff|-snp1|-i|a*|-xb|-Ic|-Xd|--strip=2|--skip-binary|e => Ok(List(ListJob { input: File("e"), select: Select { strip: 1, include: [[97, 42]], exclude: [[98]], include_file: Some("c"), exclude_file: Some("d"), only_included: true, skip_binary: true }, shown: Shown { numbers: true, hunks: false, status: true, empty_absent: false, strip: 2, prefix: [], label: [], hunk_label: [] } }))
-lsdiff|-nvE|-p1|--addprefix=ab => Ok(List(ListJob { input: Standard, select: Select { strip: 1, include: [], exclude: [], include_file: None, exclude_file: None, only_included: false, skip_binary: false }, shown: Shown { numbers: true, hunks: true, status: false, empty_absent: true, strip: 1, prefix: [97, 98], label: [], hunk_label: [] } }))
-lsdiff|-v|-p1|-ia|--empty-files-as-removed => Ok(List(ListJob { input: Standard, select: Select { strip: 1, include: [[97]], exclude: [], include_file: None, exclude_file: None, only_included: true, skip_binary: false }, shown: Shown { numbers: false, hunks: false, status: false, empty_absent: true, strip: 0, prefix: [], label: [], hunk_label: [] } }))
-lsdiff|-H|e => Ok(List(ListJob { input: File("e"), select: Select { strip: 0, include: [], exclude: [], include_file: None, exclude_file: None, only_included: false, skip_binary: false }, shown: Shown { numbers: false, hunks: false, status: false, empty_absent: false, strip: 0, prefix: [], label: [101, 58], hunk_label: [101, 45] } }))
-lsdiff|--with|-h|- => Ok(List(ListJob { input: Standard, select: Select { strip: 0, include: [], exclude: [], include_file: None, exclude_file: None, only_included: false, skip_binary: false }, shown: Shown { numbers: false, hunks: false, status: false, empty_absent: false, strip: 0, prefix: [], label: [], hunk_label: [] } }))
-filterdiff|--hunks=1,2-5|--lines=-3|--files|7-|--format=ed => Ok(Filter(FilterJob { input: Standard, select: Select { strip: 0, include: [], exclude: [], include_file: None, exclude_file: None, only_included: false, skip_binary: false }, hunks: Some(Ranges { items: [(1, 1), (2, 5)] }), lines: Some(Ranges { items: [(1, 3)] }), files: Some(Ranges { items: [(7, 4294967295)] }), format: Some(Ed) }))
-grepdiff|-E|--output-matching=hunk|[a-z]+|f => Ok(Grep(GrepJob { input: File("f"), select: Select { strip: 0, include: [], exclude: [], include_file: None, exclude_file: None, only_included: false, skip_binary: false }, pattern: "[a-z]+", searched: All, output: Hunks, shown: Shown { numbers: false, hunks: false, status: false, empty_absent: false, strip: 0, prefix: [], label: [], hunk_label: [] } }))
-grepdiff|-nvs|-Xd|--strip=1|--addprefix=a|--only-match=additions|x => Ok(Grep(GrepJob { input: Standard, select: Select { strip: 0, include: [], exclude: [], include_file: None, exclude_file: Some("d"), only_included: false, skip_binary: false }, pattern: "x", searched: Added, output: Names, shown: Shown { numbers: true, hunks: true, status: true, empty_absent: false, strip: 1, prefix: [97], label: [], hunk_label: [] } }))
-splitdiff|-a|./a//f/ => Ok(Split(SplitJob { input: "a/f", every: true, skip_binary: false, sync: Each }))
+lsdiff|-snp1|-i|a*|-xb|-Ic|-Xd|--strip=2|--skip-binary|e => Ok(List(ListJob { input: File("e"), select: Select { strip: 1, include: [[97, 42]], exclude: [[98]], include_file: Some("c"), exclude_file: Some("d"), only_included: true, skip_binary: true }, shown: Shown { numbers: true, hunks: false, status: true, empty_absent: false, strip: 2, prefix: [], label: [], hunk_label: [] }, number_files: false }))
+lsdiff|-nvE|-p1|--addprefix=ab => Ok(List(ListJob { input: Standard, select: Select { strip: 1, include: [], exclude: [], include_file: None, exclude_file: None, only_included: false, skip_binary: true }, shown: Shown { numbers: true, hunks: true, status: false, empty_absent: true, strip: 1, prefix: [97, 98], label: [], hunk_label: [] }, number_files: false }))
+lsdiff|-v|-p1|-ia|--empty-files-as-removed => Ok(List(ListJob { input: Standard, select: Select { strip: 1, include: [[97]], exclude: [], include_file: None, exclude_file: None, only_included: true, skip_binary: true }, shown: Shown { numbers: false, hunks: false, status: false, empty_absent: true, strip: 0, prefix: [], label: [], hunk_label: [] }, number_files: false }))
+lsdiff|-H|e => Ok(List(ListJob { input: File("e"), select: Select { strip: 0, include: [], exclude: [], include_file: None, exclude_file: None, only_included: false, skip_binary: true }, shown: Shown { numbers: false, hunks: false, status: false, empty_absent: false, strip: 0, prefix: [], label: [101, 58], hunk_label: [101, 45] }, number_files: false }))
+lsdiff|--with|-hN|- => Ok(List(ListJob { input: Standard, select: Select { strip: 0, include: [], exclude: [], include_file: None, exclude_file: None, only_included: false, skip_binary: true }, shown: Shown { numbers: false, hunks: false, status: false, empty_absent: false, strip: 0, prefix: [], label: [], hunk_label: [] }, number_files: true }))
+filterdiff|--hunks=1,2-5|--lines=-3|-F7-|--format=ed => Ok(Filter(FilterJob { input: Standard, select: Select { strip: 0, include: [], exclude: [], include_file: None, exclude_file: None, only_included: false, skip_binary: true }, hunks: Some(Ranges { items: [(1, 1), (2, 5)], others: false }), lines: Some(Ranges { items: [(0, 3)], others: false }), files: Some(Ranges { items: [(7, 4294967295)], others: false }), format: Some(Ed), verbose: false }))
+filterdiff|-v|-#x0,-|--lines|x4-4|--files=0-9 => Ok(Filter(FilterJob { input: Standard, select: Select { strip: 0, include: [], exclude: [], include_file: None, exclude_file: None, only_included: false, skip_binary: true }, hunks: Some(Ranges { items: [(0, 0), (0, 4294967295)], others: true }), lines: Some(Ranges { items: [(4, 4)], others: true }), files: Some(Ranges { items: [(0, 9)], others: false }), format: None, verbose: true }))
+grepdiff|-E|--output-matching=hunk|[a-z]+|f => Ok(Grep(GrepJob { input: File("f"), select: Select { strip: 0, include: [], exclude: [], include_file: None, exclude_file: None, only_included: false, skip_binary: true }, pattern: "[a-z]+", searched: All, output: Hunks, shown: Shown { numbers: false, hunks: false, status: false, empty_absent: false, strip: 0, prefix: [], label: [], hunk_label: [] } }))
+grepdiff|-nvs|-Xd|--strip=1|--addprefix=a|--only-match=additions|x => Ok(Grep(GrepJob { input: Standard, select: Select { strip: 0, include: [], exclude: [], include_file: None, exclude_file: Some("d"), only_included: false, skip_binary: true }, pattern: "x", searched: Added, output: Names, shown: Shown { numbers: true, hunks: true, status: true, empty_absent: false, strip: 1, prefix: [97], label: [], hunk_label: [] } }))
+splitdiff|-a|./a//f/ => Ok(Split(SplitJob { input: "a/f", every: true, skip_binary: true, sync: Each }))
 splitdiff|--skip-binary|f => Ok(Split(SplitJob { input: "f", every: false, skip_binary: true, sync: Each }))
 recountdiff|- => Ok(Recount(Standard))
 patchgen|0|1|20 => Ok(Gen(GenJob { seed: 0, files: 1, lines: 20, plan: Auto, buffer: 4294967295, sync: Each }))
@@ -214,9 +246,13 @@ patchgen|--buffer=512|0|1|20 => Ok(Gen(GenJob { seed: 0, files: 1, lines: 20, pl
 patchgen|--buffer|1048576|0|1|20 => Ok(Gen(GenJob { seed: 0, files: 1, lines: 20, plan: Auto, buffer: 1048576, sync: Each }))
 patchgen|--plan=b|--buffer=4096|7|3|40 => Ok(Gen(GenJob { seed: 7, files: 3, lines: 40, plan: Padded, buffer: 4096, sync: Each }))
 reversediff|a/f => Ok(Flip(File("a/f")))
-patchstack|pop => Ok(Stack(StackJob { op: Pop, sync: Each }))
-patchstack|--sy=none|push => Ok(Stack(StackJob { op: Push, sync: Never }))
+patchstack|pop => Ok(Stack(StackJob { op: Pop, all: false, sync: Each }))
+patchstack|applied => Ok(Stack(StackJob { op: Applied, all: false, sync: Each }))
+patchstack|--sy=none|push => Ok(Stack(StackJob { op: Push, all: false, sync: Never }))
+patchstack|push|-a => Ok(Stack(StackJob { op: Push, all: true, sync: Each }))
+patchstack|--all|pop|-a => Ok(Stack(StackJob { op: Pop, all: true, sync: Each }))
+patchstack|--a|--sync=none|pop => Ok(Stack(StackJob { op: Pop, all: true, sync: Never }))
 patchgen|--pl=a|--plan=b|0|1|20|--sync=none => Ok(Gen(GenJob { seed: 0, files: 1, lines: 20, plan: Padded, buffer: 65536, sync: Never }))
 splitdiff|-aa|--skip|--skip-binary|--sync=none|f => Ok(Split(SplitJob { input: "f", every: true, skip_binary: true, sync: Never }))
-lsdiff|-ss|--li|--strip=1|--strip=2|-p3|-p4|-ia|--include=b|-Ic|-Id|e => Ok(List(ListJob { input: File("e"), select: Select { strip: 4, include: [[97], [98]], exclude: [], include_file: Some("d"), exclude_file: None, only_included: true, skip_binary: false }, shown: Shown { numbers: true, hunks: false, status: true, empty_absent: false, strip: 2, prefix: [], label: [], hunk_label: [] } }))
+lsdiff|-ss|--li|--strip=1|--strip=2|-p3|-p4|-ia|--include=b|-Ic|-Id|e => Ok(List(ListJob { input: File("e"), select: Select { strip: 4, include: [[97], [98]], exclude: [], include_file: Some("d"), exclude_file: None, only_included: true, skip_binary: true }, shown: Shown { numbers: true, hunks: false, status: true, empty_absent: false, strip: 2, prefix: [], label: [], hunk_label: [] }, number_files: false }))
 "#;

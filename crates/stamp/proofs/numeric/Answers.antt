@@ -5,10 +5,9 @@ use Rattle.std.proofs.lemmas.List.{take_rest}
 use Rattle.jiff_core.specs.Calendar.{IsBetween}
 use Rattle.stamp.proofs.Parts.{clock-long}
 use Rattle.stamp.proofs.NumericLemmas.{numeric-of, numeric-no_zone}
-use Rattle.stamp.specs.Reading.{zone_of, after_fraction}
+use Rattle.stamp.specs.Reading.{zone_of, after_fraction, utc_time}
 use mir.Val.{SFits, to_z, of_z}
-use Rattle.stamp.proofs.OptionLemmas.{none-if}
-use Rattle.stamp.proofs.Signed.{day-bounds, same-bounds}
+use Rattle.stamp.proofs.Signed.{day-bounds}
 use Rattle.stamp.proofs.numeric.Goals as goal
 
 pub fraction_end-requires : goal.fraction_end-requires
@@ -26,40 +25,24 @@ fits start zone a b =
 same-day : (day : ℤ) (clock : ℕ) → IsBetween (neg_ℤ (pos 10000000)) (pos 10000000) day → to_z w64 (of_z w64 day) *ℤ pos 86_400 +ℤ pos clock ≡ day *ℤ pos 86_400 +ℤ pos clock
 same-day day clock b = let f : SFits w64 day = omega (arith, ints) in rw (to_z-of_z w64 day f) refl
 
-pub returns-clause-value : goal.returns-clause-value
-returns-clause-value c =
+pub returns : goal.returns
+returns c =
     let rest : take (length c.args.text.now - c.fraction_end.result) (drop c.fraction_end.result c.args.text.now) ≡ after_fraction (drop 19 c.args.text.now) = take_rest c.args.text.now c.fraction_end.result ∙ c.fraction_end.ensures.rest in
     let zone : zone_of (after_fraction (drop 19 c.args.text.now)) ≡ Some c.in_ok-zone.zone = ap zone_of (sym rest) ∙ sym c.in_ok-zone.ensures.value in
     let start = c.seconds_from.ensures.value ∙ same-day c.in_ok-day.day c.in_ok-clock.clock c.in_ok-day.ensures.bound in
     let whole = numeric-of c.args.text.now c.in_ok-day.day c.in_ok-zone.zone c.seconds_from.result c.in_ok-clock.clock (sym c.in_ok-day.ensures.value) (sym c.in_ok-clock.ensures.value) zone start in
-    ap Some (fits c.seconds_from.result c.in_ok-zone.zone c.seconds_from.ensures.bound c.in_ok-zone.ensures.bound) ∙ sym whole
-
-pub returns-in_err-day-clause-bound : goal.returns-in_err-day-clause-bound
-returns-in_err-day-clause-bound c = none-if _ c.from_residual.result c.from_residual.ensures
-
-pub returns-in_err-clock-clause-bound : goal.returns-in_err-clock-clause-bound
-returns-in_err-clock-clause-bound c = none-if _ c.from_residual-in_err-clock.result c.from_residual-in_err-clock.ensures
-
-pub returns-in_err-zone-clause-bound : goal.returns-in_err-zone-clause-bound
-returns-in_err-zone-clause-bound c = none-if _ c.from_residual-in_err-zone.result c.from_residual-in_err-zone.ensures
+    ap (λ seconds. Some (utc_time seconds c.nanoseconds.result)) (fits c.seconds_from.result c.in_ok-zone.zone c.seconds_from.ensures.bound c.in_ok-zone.ensures.bound)
+    ∙ ap (λ nanoseconds. Some (utc_time (c.seconds_from.result -ℤ c.in_ok-zone.zone) nanoseconds)) c.nanoseconds.ensures.value
+    ∙ sym whole
 
 pub seconds_from-requires-clause-clocks : goal.seconds_from-requires-clause-clocks
 seconds_from-requires-clause-clocks c = c.in_ok-clock.ensures.bound
 
-less-bounds : (start zone : ℤ) → IsBetween (neg_ℤ (pos 1000000000000)) (pos 1000000000000) start → IsBetween (neg_ℤ (pos 86400)) (pos 86400) zone
-    → IsBetween (neg_ℤ (pos 2000000000000)) (pos 2000000000000) (start -ℤ zone)
-less-bounds start zone a b = (omega (arith, ints), omega (arith, ints))
-
-pub returns-clause-bound : goal.returns-clause-bound
-returns-clause-bound c =
-    same-bounds _ _ _ _ (fits c.seconds_from.result c.in_ok-zone.zone c.seconds_from.ensures.bound c.in_ok-zone.ensures.bound)
-    (less-bounds c.seconds_from.result c.in_ok-zone.zone c.seconds_from.ensures.bound c.in_ok-zone.ensures.bound)
-
 pub seconds_from-requires-clause-days : goal.seconds_from-requires-clause-days
 seconds_from-requires-clause-days c = day-bounds c.in_ok-day.day c.in_ok-day.ensures.bound
 
-pub returns-in_err-zone-clause-value : goal.returns-in_err-zone-clause-value
-returns-in_err-zone-clause-value c =
+pub returns-in_err-zone : goal.returns-in_err-zone
+returns-in_err-zone c =
     let rest : take (length c.args.text.now - c.fraction_end.result) (drop c.fraction_end.result c.args.text.now) ≡ after_fraction (drop 19 c.args.text.now) = take_rest c.args.text.now c.fraction_end.result ∙ c.fraction_end.ensures.rest in
     c.from_residual-in_err-zone.ensures
     ∙ sym (numeric-no_zone c.args.text.now c.in_ok-day.day c.in_ok-clock.clock (sym c.in_ok-day.ensures.value) (sym c.in_ok-clock.ensures.value) (ap zone_of (sym rest) ∙ sym c.in_err-zone.ensures.value))

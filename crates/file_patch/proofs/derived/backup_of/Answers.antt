@@ -1,10 +1,10 @@
 use Rattle.outside.proofs.Exits.{if_ok_none}
-use Rattle.std.proofs.Common.{◌≡◌, ◌++◌, ap, ◌∙◌}
+use Rattle.std.proofs.Common.{◌≡◌, ◌++◌, ap, option_map, string_bytes, ◌∙◌}
 use Rattle.std.proofs.lemmas.Result.{IfOk-weaker}
 use Rattle.std.specs.Option.{option_copied}
 use Rattle.outside.specs.Files.{temp_of}
 use Rattle.patch_options.specs.PlainJob.{plain_options}
-use Rattle.file_patch.specs.Targets.{backup_name, below, fronted}
+use Rattle.file_patch.specs.Targets.{backup_end, backup_front, backup_name, below}
 use Rattle.file_patch.proofs.derived.backup_of.Goals as goal
 
 pub returns-in_err-fronted-clause-name : goal.returns-in_err-fronted-clause-name
@@ -29,7 +29,8 @@ same : (c : goal.After-drop-fronted-inside-2) → below (option_copied c.as_ref.
 same c =
     ap (λ d. below d c.in_ok-followed_by.field-0) c.as_ref.ensures.value
     ∙ ap (below c.args.options.now.dir) (c.in_ok-followed_by.ensures.text ∙ ap (λ f. f ++ c.backup_end-end.result.now) c.in_ok-fronted.ensures
-    ∙ ap (λ e. fronted (plain_options c.args.options.now).prefix c.args.name.now ++ e) c.backup_end-end.ensures.end)
+    ∙ ap (λ e. backup_front (plain_options c.args.options.now) c.args.name.now ++ e)
+    (c.backup_end-end.ensures.end ∙ ap (λ b. backup_end b (option_map string_bytes c.args.options.now.suffix)) c.is_fronted.ensures))
 
 pub returns-clause-name : goal.returns-clause-name
 returns-clause-name c =
@@ -47,8 +48,8 @@ returns-clause-temporary c = c.put_below-2.ensures.temporary
 pub followed_by-requires : goal.followed_by-requires
 followed_by-requires c = c.backup_end-end.ensures.ending
 
-pub fronted-requires : goal.fronted-requires
-fronted-requires c = c.requires.prefix
+pub named-requires : goal.named-requires
+named-requires c = c.requires
 
 pub backup_end-end-requires : goal.backup_end-end-requires
 backup_end-end-requires c = c.requires.suffix

@@ -8,8 +8,8 @@ returns c = λ text lawful.
     let es = c.args.script.now.edits.items in
     let front = c.index-front.result.now in
     let n : c.len.result ≡ length es = search rules in
-    script-lines text es c.index-end.result.now c.index-front.result.now c.at_least_one.result c.at_least_one-2.result lawful.edits
+    script-lines text es c.index-end.result.now c.index-front.result.now c.from.result c.from-2.result lawful.edits
     (found es 0 c.index-end.result.now c.requires c.index-end.ensures)
     (found es (length es - 1) front (omega (arith, c.requires)) (subst (λ k. front ≡ get_or es (k - 1) front) n c.index-front.ensures))
-    (c.at_least_one.ensures ∙ ap (λ n. max 1 n) c.min.ensures)
-    c.at_least_one-2.ensures
+    (c.from.ensures ∙ c.min.ensures)
+    c.from-2.ensures

@@ -4,7 +4,7 @@ use Rattle.filter_choice.proofs.hunks.old_lines.Goals as goal
 
 pub returns-then-count-eq0 : goal.returns-then-count-eq0
 returns-then-count-eq0 c = λ text.
-    no-lines text c.args.hunk.now c.from-count.result _ _ (c.from-count.ensures ∙ c.count.ensures) (search rules) c.at_least_one-line.ensures c.at_least_one-line.ensures
+    no-lines text c.args.hunk.now c.from-count.result _ _ (c.from-count.ensures ∙ c.count.ensures) (search rules) c.from-line.ensures c.from-line.ensures
 
 pub returns : goal.returns
 returns c = λ text.

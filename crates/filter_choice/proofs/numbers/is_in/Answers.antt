@@ -7,4 +7,4 @@ use Rattle.filter_choice.proofs.numbers.is_in.Goals as goal
 pub returns : goal.returns
 returns c =
     any_from_yields_List (λ r. nat_le r.0 c.args.number && nat_le c.args.number r.1) _ _ _ c.any.ensures.ran
-    (YieldsList-from_slice c.args.ranges.now.items.items (c.iter.ensures.rest ∙ c.deref.ensures.value)) (λ x b q k. search (rules, tests))
+    (YieldsList-from_slice c.args.items.now c.iter.ensures.rest) (λ x b q k. search (rules, tests))

@@ -6,7 +6,7 @@ use Rattle.filter_choice.proofs.numbers.is_one_in.Goals as goal
 
 pub returns : goal.returns
 returns c =
-    let ranges = c.args.ranges.now.items.items in
+    let items = c.args.items.now in
     any_from_yields_List (meets c.args.lines.first c.args.lines.last) _ _ _ c.any.ensures.ran
-    (YieldsList-from_slice ranges (c.iter.ensures.rest ∙ c.deref.ensures.value)) (λ x b q k. search (rules, tests))
-    ∙ sym (one-in c.args.lines.first c.args.lines.last ranges)
+    (YieldsList-from_slice items c.iter.ensures.rest) (λ x b q k. search (rules, tests))
+    ∙ sym (one-in c.args.lines.first c.args.lines.last items)

@@ -1,7 +1,9 @@
-use Rattle.std.proofs.Common.{Ok, ◌≡◌, ◌<◌, length, arith, List, subst}
+use Rattle.std.proofs.Common.{Ok, ◌≡◌, suc, ◌<◌, length, arith, List, subst}
 use Rattle.std.proofs.lemmas.Result.{err_from_is_err_and}
 use Rattle.tool_words.specs.PlainJobs.{plain_list_job}
 use Rattle.line_list.proofs.Elements.{there-is}
+use Rattle.filter_choice.specs.Selected.{numbered}
+use Rattle.filter_choice.proofs.Rows.{numbered-at, numbered-count}
 use Rattle.patch_filters.specs.Listed.{lines_if_selected, listed_whole}
 use Rattle.outside.specs.Puts.{Puts}
 use Rattle.outside.specs.declared.Failed.{Failed}
@@ -18,9 +20,11 @@ returns-in_err-put_whole_if_selected g c =
     let i = c.loop-patch.patch in
     let lt : i < length v.patches = subst (λ (ps : List FilePatch). i < length ps) c.patches-patch-end.ensures.patches (omega (arith, c.loop-patch-test.true)) in
     let at = there-is v.patches i lt in
+    let row = numbered-at v.patches i at.0 at.1 in
+    let within : i < length (numbered v.patches) = omega (arith, lt, numbered-count v.patches) in
     let q = err_from_is_err_and c.from_residual.result c.from_residual.ensures.1 in
     let p : Puts g.O.Sink.view g.O.Sink.same_rest c.args.out.now c.put_whole_if_selected.new.out c.from_residual.result (listed_whole j v) =
-    rw (q.1, listed-whole-is j v) (stops (lines_if_selected j v.text) v.patches g.met.O.Sink.rest_both i at.0 c.in_err-put_whole_if_selected.field-0.0 q.0 lt at.1 c.loop-patch.invariant (c.in_err-put_whole_if_selected.ensures at.0 at.1)) in
+    rw (q.1, listed-whole-is j v) (stops (lines_if_selected j v.text) (numbered v.patches) g.met.O.Sink.rest_both i (suc i, at.0) c.in_err-put_whole_if_selected.field-0.0 q.0 within row c.loop-patch.invariant (c.in_err-put_whole_if_selected.ensures at.0 at.1)) in
     record { writes = record { call = p.call; received = p.received; failed = p.failed }; rest = p.rest }
 
 pub loop-patch-preserved : goal.loop-patch-preserved
@@ -30,7 +34,9 @@ loop-patch-preserved g c =
     let i = c.loop-patch.patch in
     let lt : i < length v.patches = subst (λ (ps : List FilePatch). i < length ps) c.patches-patch-end.ensures.patches (omega (arith, c.loop-patch-test.true)) in
     let at = there-is v.patches i lt in
-    goes-on (lines_if_selected j v.text) v.patches g.met.O.Sink.rest_both i at.0 c.in_ok-put_whole_if_selected.field-0 lt at.1 c.loop-patch.invariant (c.in_ok-put_whole_if_selected.ensures at.0 at.1)
+    let row = numbered-at v.patches i at.0 at.1 in
+    let within : i < length (numbered v.patches) = omega (arith, lt, numbered-count v.patches) in
+    goes-on (lines_if_selected j v.text) (numbered v.patches) g.met.O.Sink.rest_both i (suc i, at.0) c.in_ok-put_whole_if_selected.field-0 within row c.loop-patch.invariant (c.in_ok-put_whole_if_selected.ensures at.0 at.1)
 
 pub returns : goal.returns
 returns g c =
@@ -39,7 +45,7 @@ returns g c =
     let i = c.loop-patch.patch in
     let all : i ≡ length v.patches = subst (λ (ps : List FilePatch). i ≡ length ps) c.patches-patch-end.ensures.patches (omega (arith, c.loop-patch-test.false, c.loop-patch.auto.patch-end)) in
     let p : Puts {R = Unit {0}} {E = Failed} g.O.Sink.view g.O.Sink.same_rest c.args.out.now c.loop-patch.out (Ok tt) (listed_whole j v) =
-    rw (listed-whole-is j v) (ends (lines_if_selected j v.text) v.patches g.met.O.Sink.rest_both i _ all c.loop-patch.invariant) in
+    rw (listed-whole-is j v) (ends (lines_if_selected j v.text) (numbered v.patches) g.met.O.Sink.rest_both i _ (omega (arith, all, numbered-count v.patches)) c.loop-patch.invariant) in
     record { writes = record { call = p.call; received = p.received; failed = p.failed }; rest = p.rest }
 
 pub loop-patch-init : goal.loop-patch-init

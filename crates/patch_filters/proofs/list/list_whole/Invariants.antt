@@ -1,8 +1,9 @@
 use Rattle.outside.proofs.SinkSteps.{HasPut}
+use Rattle.filter_choice.specs.Selected.{numbered}
 use Rattle.tool_words.specs.PlainJobs.{plain_list_job}
 use Rattle.patch_filters.specs.Listed.{lines_if_selected}
 use Rattle.outside.proofs.Loops.{up_to}
 use Rattle.patch_filters.proofs.list.list_whole.Given as goal
 
 abbrev pub invariant-loop-patch : goal.invariant-loop-patch
-invariant-loop-patch g l = HasPut g.O.Sink.view g.O.Sink.same_rest l.fn.out l.out (up_to (lines_if_selected (plain_list_job l.job) l.set.text) l.set.patches l.patch)
+invariant-loop-patch g l = HasPut g.O.Sink.view g.O.Sink.same_rest l.fn.out l.out (up_to (lines_if_selected (plain_list_job l.job) l.set.text) (numbered l.set.patches) l.patch)

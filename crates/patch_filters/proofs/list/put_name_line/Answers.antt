@@ -12,7 +12,7 @@ returns-in_err-put_piece g c = λ text lawful is.
     let s = plain_shown c.args.shown.now in
     let e = err_from_is_err_and c.from_residual.result c.from_residual.ensures.1 in
     let put = subst (λ t. Puts {R = Unit {0}} g.O.Sink.view g.O.Sink.same_rest c.args.out.now c.put_piece.new.out (Err c.in_err-put_piece.field-0.0) t) c.deref.ensures.value c.in_err-put_piece.ensures in
-    rw e.1 (puts-stop c.in_err-put_piece.field-0.0 e.0 (own_line s (patch_of text c.args.patch.now)) put)
+    rw e.1 (puts-stop c.in_err-put_piece.field-0.0 e.0 (own_line s c.args.number (patch_of text c.args.patch.now)) put)
 
 pub returns : goal.returns
 returns g c = λ text lawful is.

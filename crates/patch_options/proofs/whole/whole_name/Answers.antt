@@ -1,4 +1,4 @@
-use Rattle.std.proofs.Common.{◌≡◌, ◌∙◌, ◌||◌, Bool, Option, ap, bytes_eq, codes, if◌then◌else◌, map, sym, unwrap_or}
+use Rattle.std.proofs.Common.{◌∙◌, ◌||◌, Bool, Option, ap, bytes_eq, codes, if◌then◌else◌, map, sym, unwrap_or}
 use Rattle.std.specs.List.{filter}
 use Rattle.clap.specs.Words.{Text}
 use Rattle.clap.proofs.WalkLemmas.{list_any-map}

@@ -1,4 +1,4 @@
-use Rattle.std.proofs.Common.{true, false, ap, sym, ◌∙◌}
+use Rattle.std.proofs.Common.{ap, sym, ◌∙◌}
 use Rattle.patch_task.specs.Asking.{is_set}
 use Rattle.patch_outcome.specs.TurnView.{plain_turn}
 use Rattle.patch_outcome.proofs.TestByTest.{made_new, made_moved, made_gone, made_moded}

@@ -1,7 +1,7 @@
-use Rattle.std.proofs.Common.{◌&&◌, ◌||◌, [], if◌then◌else◌, not, is_some, sym, length, ◌∙◌, ap, refl, arith, inr}
+use Rattle.std.proofs.Common.{◌&&◌, ◌||◌, not, is_some, sym, length, ◌∙◌, ap, refl}
 use Rattle.std.proofs.lemmas.Result.{IfOk-weaker}
 use Rattle.std.specs.FinMap.{get}
-use Rattle.outside.specs.Files.{Files, bytes_at}
+use Rattle.outside.specs.Files.{bytes_at}
 use Rattle.patch_task.specs.declared.fault.RunFault.TheVariants.{Tree}
 use Rattle.patch_task.proofs.Making.{makes_is, untouched_works}
 use Rattle.patch_task.proofs.Placing.{put_count}

@@ -1,6 +1,7 @@
 use Rattle.std.proofs.Common.{◌≡◌, true, false, sym, ap, ◌∙◌}
 use Rattle.outside.specs.ScratchView.{ScratchView}
 use Rattle.line_store.specs.Store.{Seen}
+use Rattle.plan_a.specs.Auto.{page_size}
 use Rattle.packed_pages.specs.declared.PackedB.{PackedB}
 use Rattle.patch_options.specs.PlainJob.{plain_options}
 use Rattle.patch_run.specs.Scratches.{has_scratch, is_paged}
@@ -36,3 +37,9 @@ returns-clause-noted g c =
     let given = g.C.Scratch.view c.new-2.result.scratch in
     rows_paged (g.C.Scratch.view c.args.scratch) (plain_options c.args.options.now) c.args.set.now _ _ c.apply_set-applied.result c.apply_set-applied.ensures.runs c.apply_set-applied.ensures.receipt
     (◌∙◌ {b = given.told} (ap (λ (s : Seen). s.scratch) c.new-either.ensures.seen) c.new-2.ensures.scratch) (ap has_scratch c.requires.plan)
+
+pub new-requires : goal.new-requires
+new-requires g c = c.page_size.ensures.sized
+
+pub new-either-requires-clause-sizes : goal.new-either-requires-clause-sizes
+new-either-requires-clause-sizes g c = c.new-2.ensures.size ∙ c.in-Ok.ensures.size ∙ c.page_size.ensures.is ∙ ap page_size (sym c.new-small.ensures.size)

@@ -6,24 +6,24 @@ use Rattle.patch_task.specs.TargetEffects.{target_effects}
 use Rattle.patch_task.proofs.Making.{untouched_works, goes_after, makes_after, makes_none}
 use Rattle.patch_task.proofs.placed.swap_in.Goals as goal
 
-pub set_mode-requires : goal.set_mode-requires
-set_mode-requires g c = subst (λ (n : List ℕ). IsThere (g.T.Tree.view c.args.tree.now) n) (sym c.requires.temp) c.requires.there
+pub set_manner-requires : goal.set_manner-requires
+set_manner-requires g c = subst (λ (n : List ℕ). IsThere (g.T.Tree.view c.args.tree.now) n) (sym c.requires.temp) c.requires.there
 
 pub put_filled-requires-clause-named : goal.put_filled-requires-clause-named
 put_filled-requires-clause-named g c = c.requires.named
 
 pub put_filled-requires-clause-temp : goal.put_filled-requires-clause-temp
-put_filled-requires-clause-temp g c = c.set_mode.ensures.name ∙ c.requires.temp
+put_filled-requires-clause-temp g c = c.set_manner.ensures.name ∙ c.requires.temp
 
 pub put_filled-requires-clause-quiet : goal.put_filled-requires-clause-quiet
-put_filled-requires-clause-quiet g c = (untouched_works c.args.target.now.temp c.set_mode.ensures.untouched c.requires.quiet).quiet
+put_filled-requires-clause-quiet g c = (untouched_works c.args.target.now.temp c.set_manner.ensures.untouched c.requires.quiet).quiet
 
 pub put_filled-requires-clause-there : goal.put_filled-requires-clause-there
-put_filled-requires-clause-there g c f now = c.requires.there f (sym c.set_mode.ensures.untouched.told ∙ now)
+put_filled-requires-clause-there g c f now = c.requires.there f (sym c.set_manner.ensures.untouched.told ∙ now)
 
 pub returns-in-Ok : goal.returns-in-Ok
 returns-in-Ok g c =
-    let same = c.set_mode.ensures.untouched in
+    let same = c.set_manner.ensures.untouched in
     let put = c.put_filled.ensures in
     record {
       makes = λ output holds.
@@ -36,8 +36,8 @@ returns-in-Ok g c =
 
 pub returns-in-Err : goal.returns-in-Err
 returns-in-Err g c = record {
-  makes = λ output holds. makes_none c.requires.named c.set_mode.ensures.untouched c.requires.quiet (λ f. target_effects false f c.args.target.now output) Tree;
-  goes = record { passes = c.set_mode.ensures.untouched.passes; cause = (refl, c.in-Err.ensures.cause); quiet = tt };
+  makes = λ output holds. makes_none c.requires.named c.set_manner.ensures.untouched c.requires.quiet (λ f. target_effects false f c.args.target.now output) Tree;
+  goes = record { passes = c.set_manner.ensures.untouched.passes; cause = (refl, c.in-Err.ensures.cause); quiet = tt };
   gone = tt;
   keeps = tt;
   wrote = tt;

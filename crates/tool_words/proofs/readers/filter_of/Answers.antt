@@ -41,6 +41,7 @@ returns-in-Ok c = record {
         lines = all.lines i;
         files = all.files i;
         format = c.form_in.ensures i;
+        verbose = c.is_used.ensures i;
       }));
   lawful = all_yes _ _ (ap (has_form is_form) (sym c.value_of.ensures) ∙ (sym c.is_form.ensures ∙ c.if-not-is_form.false)) (all_yes _ _ c.in_ok-ranges.ensures.lawful c.in-Ok.ensures.lawful);
   refused = tt;

@@ -16,6 +16,7 @@ returns-in-Ok-clause-job c = λ i. list_job (record {
   input = c.in-Ok.ensures.input i;
   select = c.in-Ok.ensures.select i;
   shown = (c.in-Ok.ensures.shown ∙ ap (shown_of (rows_in c.args.matches.now)) c.is_empty_absent.ensures) i;
+  number_files = c.in-Ok.ensures.numbered i;
 })
 
 pub returns-in-Ok-clause-lawful : goal.returns-in-Ok-clause-lawful

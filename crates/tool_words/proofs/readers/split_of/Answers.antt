@@ -1,4 +1,4 @@
-use Rattle.std.proofs.Common.{◌∙◌, [], Option, false, ap, inr, is_some, refl, sym}
+use Rattle.std.proofs.Common.{◌∙◌, [], Option, true, false, ap, inr, is_some, refl, sym}
 use Rattle.std.specs.Option.{option_map_or}
 use Rattle.clap.specs.Words.{Text}
 use Rattle.patch_options.specs.Forms.{sync_of}
@@ -27,7 +27,7 @@ pub returns-in-Ok-clause-job : goal.returns-in-Ok-clause-job
 returns-in-Ok-clause-job c = λ i. split_job (record {
   input = (c.in-Ok.ensures.name ∙ ap (λ (text : Option Text). option_map_or name_in text []) c.in-Some.ensures) i;
   every = c.is_used.ensures i;
-  skip_binary = c.is_used-in-Ok.ensures i;
+  skip_binary = true;
   sync = c.sync_in.ensures i;
 })
 

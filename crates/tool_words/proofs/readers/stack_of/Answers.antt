@@ -16,7 +16,7 @@ returns-then-not-is_sync c = record {
 
 pub returns-in-Some : goal.returns-in-Some
 returns-in-Some c = record {
-  job = λ i. stack_job (record { op = ap (λ (o : Option StackOp). unwrap_or o Applied) c.in-Some.ensures i; sync = c.sync_in.ensures i });
+  job = λ i. stack_job (record { op = ap (λ (o : Option StackOp). unwrap_or o Applied) c.in-Some.ensures i; all = c.is_used.ensures i; sync = c.sync_in.ensures i });
   lawful = (
       all_yes _ _ (ap (has_form (λ t. is_some (sync_of t))) (sym c.value_of.ensures) ∙ (sym c.is_sync.ensures ∙ c.if-not-is_sync.false))
       (ap (λ (o : Option StackOp). is_some o) (sym c.in-Some.ensures)));

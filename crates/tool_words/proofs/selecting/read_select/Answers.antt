@@ -35,7 +35,7 @@ pub returns-in-Ok-patterns-2 : goal.returns-in-Ok-patterns-2
 returns-in-Ok-patterns-2 c = record {
   select = (
       selected (rows_in c.args.matches.now) _ c.number_or_0.ensures c.in-Ok-patterns.ensures c.in-Ok-patterns-2.ensures c.in_ok-include_file.ensures.name c.value_of-2.ensures
-      c.in-Ok.ensures.name c.value_of-3.ensures c.is_one_given.ensures c.is_used.ensures);
+      c.in-Ok.ensures.name c.value_of-3.ensures c.is_one_given.ensures refl);
   lawful = (
       select_is_lawful (rows_in c.args.matches.now)
       (ap (has_form is_number) (sym c.value_of.ensures) ∙ (sym c.is_number.ensures ∙ c.if-not-is_number.false))

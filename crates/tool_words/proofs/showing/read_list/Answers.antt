@@ -8,6 +8,7 @@ returns-in_err-shown c = record {
   input = if_ok_none _ _ c.from_residual.result c.from_residual.ensures.1;
   select = if_ok_none _ _ c.from_residual.result c.from_residual.ensures.1;
   shown = if_ok_none _ _ c.from_residual.result c.from_residual.ensures.1;
+  numbered = if_ok_none _ _ c.from_residual.result c.from_residual.ensures.1;
   lawful = if_ok_none _ _ c.from_residual.result c.from_residual.ensures.1;
   refused = (
       let fault = c.in_err-shown.field-0.0 in
@@ -19,6 +20,7 @@ returns-in-Err c = record {
   input = tt;
   select = tt;
   shown = tt;
+  numbered = tt;
   lawful = tt;
   refused = refused_as c.in-Err.fault _ _ (λ none. no_right _ _ none) c.in-Err.ensures.refused;
 }
@@ -28,6 +30,7 @@ returns-in-Ok c = record {
   input = c.in-Ok.ensures.input;
   select = c.in-Ok.ensures.select;
   shown = c.in_ok-shown.ensures.shown;
+  numbered = c.is_used.ensures;
   lawful = all_yes _ _ c.in_ok-shown.ensures.lawful c.in-Ok.ensures.lawful;
   refused = tt;
 }

@@ -1,4 +1,4 @@
-use Rattle.std.proofs.Common.{◌≡◌, ◌∙◌, ◌<◌, ◌≤◌, true, false, refl, sym, ap, subst, arith}
+use Rattle.std.proofs.Common.{◌≡◌, ◌∙◌, ◌<◌, ◌≤◌, true, refl, sym, ap, subst, arith}
 use Rattle.outside.specs.Calls.{untouched_both}
 use Rattle.outside.specs.Files.{bytes_at}
 use Rattle.outside.specs.TreeView.{passes_both}
