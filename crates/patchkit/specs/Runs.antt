@@ -26,7 +26,7 @@ use Rattle.tool_words.specs.Calls.{calls_of}
 use Rattle.gen_cli.specs.Jobs as gen_jobs
 use Rattle.gen_cli.specs.Carries as gen
 use Rattle.stack_cli.specs.Jobs as stack_jobs
-use Rattle.stack_cli.specs.Carries as stack
+use Rattle.stack_cli.specs.InTurn as stack
 
 -- the devices themselves at one moment, but for standard error
 pub record Devices (T C F I O : Type 0) : Type 0 where
@@ -72,15 +72,10 @@ pub record RunsGen {T C F I O : Type 0} (words : List (List ℕ)) (u w : worlds.
   pub input : e.input ≡ d.input
   pub finder : e.finder ≡ d.finder
 
--- what `stack_cli` promises of `patchstack`; standard input isn't read, the finder isn't asked, and there is no receipt
-pub record RunsStack {T C F I O : Type 0} (words : List (List ℕ)) (u w : worlds.World) (d e : Devices T C F I O) (why : Why) (applied : Option Receipt) : Type 0 where
-  pub carries : stack.Carries (stack_jobs.job_of words) u w why
-  -- words that give no operation are answered before any device is called
-  pub words_first : (fault : WordFault) → stack_jobs.job_of words ≡ Err fault → (why ≡ of_words fault) ⊎ (why ≡ Memory)
-  pub still : (fault : WordFault) → stack_jobs.job_of words ≡ Err fault → e.tree ≡ d.tree
-  pub silent : (fault : WordFault) → stack_jobs.job_of words ≡ Err fault → e.out ≡ d.out
-  -- only a push pages lines
-  pub scratch : (stack_jobs.AsksFor (stack_jobs.job_of words) stack_jobs.IsPushing → ⊥) → e.scratch ≡ d.scratch
+-- what `stack_cli` promises of `patchstack`, of one command or of each of those that run in turn; standard input isn't read, the finder isn't
+-- asked, and there is no receipt
+pub record RunsStack {T C F I O : Type 0} (tree : T → TreeView) (scratch : C → ScratchView) (out : O → SinkView) (words : List (List ℕ)) (d e : Devices T C F I O) (why : Why) (applied : Option Receipt) : Type 0 where
+  pub runs : stack.Runs (stack_jobs.all_of words) (stack.OneRuns tree scratch out (stack_jobs.job_of words)) (stack.devices d.tree d.scratch d.out) (stack.devices e.tree e.scratch e.out) why
   pub input : e.input ≡ d.input
   pub finder : e.finder ≡ d.finder
   pub no_receipt : applied ≡ None
@@ -96,4 +91,4 @@ abbrev pub GenRuns : {T C F I O : Type 0} → (T → TreeView) → (C → Scratc
 GenRuns tree scratch out words d e exit = RunsGen words (worlds.world (tree d.tree) (scratch d.scratch) (out d.out)) (worlds.world (tree e.tree) (scratch e.scratch) (out e.out)) d e exit.why exit.applied
 
 abbrev pub StackRuns : {T C F I O : Type 0} → (T → TreeView) → (C → ScratchView) → (O → SinkView) → List (List ℕ) → Devices T C F I O → Devices T C F I O → Exit → Type 0
-StackRuns tree scratch out words d e exit = RunsStack words (worlds.world (tree d.tree) (scratch d.scratch) (out d.out)) (worlds.world (tree e.tree) (scratch e.scratch) (out e.out)) d e exit.why exit.applied
+StackRuns tree scratch out words d e exit = RunsStack tree scratch out words d e exit.why exit.applied

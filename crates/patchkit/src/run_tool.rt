@@ -5,7 +5,7 @@ ghost use Rattle.run_answers.specs.Answers.{exit_status, is_ended, of_words};
 ghost use Rattle.run_answers.specs.Reasons.{refusal_line};
 ghost use Rattle.run_answers.specs.Worlds as worlds;
 ghost use Rattle.stack_cli.specs.Jobs as stack_jobs;
-ghost use Rattle.stack_cli.specs.Carries as stack_carries;
+ghost use Rattle.stack_cli.specs.InTurn as stack_turns;
 ghost use Rattle.gen_cli.specs.Jobs.{job_of, uses_scratch};
 ghost use Rattle.gen_cli.specs.Carries.{Carries};
 ghost use Rattle.patch_options.specs.declared.options.WordFault.{WordFault};
@@ -117,11 +117,7 @@ fn run_stacking<T: Tree, C: Scratch, O: Sink, E: Sink>(
     out: &mut O,
     err: &mut E,
 ) -> (Exit, C)
-    ensures carries { stack_carries.Carries (stack_jobs.job_of (map string_bytes words.now)) (worlds.world (T.view tree.old) (C.view scratch) (O.view out.old)) (worlds.world (T.view tree.new) (C.view result.1) (O.view out.new)) result.0.why }
-    ensures words { (fault : WordFault) → stack_jobs.job_of (map string_bytes words.now) ≡ Err fault → (result.0.why ≡ of_words fault) ⊎ (result.0.why ≡ Why.Memory) }
-    ensures still { (fault : WordFault) → stack_jobs.job_of (map string_bytes words.now) ≡ Err fault → tree.new ≡ tree.old }
-    ensures silent { (fault : WordFault) → stack_jobs.job_of (map string_bytes words.now) ≡ Err fault → out.new ≡ out.old }
-    ensures scratch { (stack_jobs.AsksFor (stack_jobs.job_of (map string_bytes words.now)) stack_jobs.IsPushing → ⊥) → result.1 ≡ scratch }
+    ensures runs { stack_turns.Runs (stack_jobs.all_of (map string_bytes words.now)) (stack_turns.OneRuns T.view C.view O.view (stack_jobs.job_of (map string_bytes words.now))) (stack_turns.devices tree.old scratch out.old) (stack_turns.devices tree.new result.1 out.new) result.0.why }
     ensures no_receipt { result.0.applied ≡ None }
     ensures status { result.0.status ≡ exit_status result.0.why }
     ensures out_rest { O.same_rest out.old out.new }

@@ -5,3 +5,4 @@ mod Popped
 mod Running
 mod Pushed
 mod Fetching
+mod Turning

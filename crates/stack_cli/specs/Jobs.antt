@@ -1,5 +1,5 @@
 -- What the words of `patchstack` ask for.
-use Rattle.std.specs.Prelude.{ℕ, List, Option, None, Some, Result, Ok, Err}
+use Rattle.std.specs.Prelude.{ℕ, List, Bool, false, Option, None, Some, Result, Ok, Err}
 use Rattle.patch_options.specs.declared.options.WordFault.{WordFault}
 use Rattle.patch_options.specs.declared.options.WordFault.TheVariants.{Usage}
 use Rattle.tool_words.specs.PlainJobs.{PlainToolJob}
@@ -36,9 +36,22 @@ abbrev pub stack_op : Result PlainToolJob WordFault → Result StackOp WordFault
 stack_op (Ok job) = supported (op_in job)
 stack_op (Err fault) = Err fault
 
--- what the words ask for; the first names the tool
+-- the operation that the words ask for; the first names the tool
 abbrev pub job_of : List (List ℕ) → Result StackOp WordFault
 job_of words = stack_op (tool_job words)
+
+-- whether it goes on to the end of the stack
+abbrev pub all_in : PlainToolJob → Bool
+all_in (stack_job j) = j.all
+all_in job = false
+
+abbrev pub stack_all : Result PlainToolJob WordFault → Bool
+stack_all (Ok job) = all_in job
+stack_all (Err fault) = false
+
+-- whether the words ask to go on to the end
+abbrev pub all_of : List (List ℕ) → Bool
+all_of words = stack_all (tool_job words)
 
 -- the words ask for an operation of which P holds
 abbrev pub AsksFor : Result StackOp WordFault → (StackOp → Type 0) → Type 0

@@ -7,3 +7,4 @@ pub mod Carries
 pub mod Comes
 pub mod Stages
 pub mod States
+pub mod InTurn

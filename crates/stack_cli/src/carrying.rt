@@ -1,49 +1,25 @@
-//! A run of `patchstack`, from its words to its answer.
-ghost use Rattle.std.specs.Prelude.{◌≡◌, ◌⊎◌, map, Ok, Err, string_bytes};
+//! One command of `patchstack`, from its operation to its answer.
+ghost use Rattle.std.specs.Prelude.{◌≡◌, Ok};
 ghost use Rattle.outside.specs.Quiet.{IsQuiet};
-ghost use Rattle.patch_options.specs.declared.options.WordFault.{WordFault};
-ghost use Rattle.run_answers.specs.Answers.{of_words};
 ghost use Rattle.run_answers.specs.Worlds.{world};
-ghost use Rattle.stack_cli.specs.Jobs.{AsksFor, IsPushing, job_of};
+ghost use Rattle.stack_cli.specs.Jobs.{IsPushing};
 ghost use Rattle.stack_cli.specs.Carries.{Carries};
 ghost use Rattle.stack_cli.specs.States.{IsState};
 
 use crate::pushing::apply_next;
-use crate::reading::{State, read_op, read_state};
+use crate::reading::{State, read_state};
 use crate::taking::{count_applied, take_last};
 use outside::{Scratch, Sink, Tree};
 use run_answers::{Why, settle};
 use std::alloc::Global;
 use tool_words::StackOp;
 
-/// Carries out the words of `patchstack`; `words[0]` names it. The scratch comes back.
+/// Settles the tree, and carries the operation out over what its files tell. The scratch comes back.
 ///
 /// `carries` says, of what the command does over the tree at entry: which answer comes, with its text and its files; first
 /// parts of the text and of the effects after a fault; that a refusal left tree, scratch and standard output as they were; what
 /// each crash since the call began can leave, and that it recovers to the files before the command or after it.
-pub fn run_stack<T: Tree, C: Scratch, O: Sink>(
-    alloc: Global,
-    words: &[String],
-    tree: &mut T,
-    scratch: C,
-    out: &mut O,
-) -> (Why, C)
-    ensures carries { Carries (job_of (map string_bytes words.now)) (world (T.view tree.old) (C.view scratch) (O.view out.old)) (world (T.view tree.new) (C.view result.1) (O.view out.new)) result.0 }
-    // Words that give no operation are answered before any device is called.
-    ensures words { (fault : WordFault) → job_of (map string_bytes words.now) ≡ Err fault → (result.0 ≡ of_words fault) ⊎ (result.0 ≡ Why.Memory) }
-    ensures still { (fault : WordFault) → job_of (map string_bytes words.now) ≡ Err fault → tree.new ≡ tree.old }
-    ensures silent { (fault : WordFault) → job_of (map string_bytes words.now) ≡ Err fault → out.new ≡ out.old }
-    ensures scratch { (AsksFor (job_of (map string_bytes words.now)) IsPushing → ⊥) → result.1 ≡ scratch }
-    ensures rest { O.same_rest out.old out.new }
-{
-    match read_op(alloc, words) {
-        Ok(op) => run_op(alloc, op, tree, scratch, out),
-        Err(why) => (why, scratch),
-    }
-}
-
-/// Settles the tree, and carries the operation out over what its files tell.
-fn run_op<T: Tree, C: Scratch, O: Sink>(
+pub fn run_op<T: Tree, C: Scratch, O: Sink>(
     alloc: Global,
     op: StackOp,
     tree: &mut T,

@@ -7,5 +7,6 @@ mod fault;
 mod pushing;
 mod reading;
 mod taking;
+mod turns;
 
-pub use carrying::run_stack;
+pub use turns::run_stack;

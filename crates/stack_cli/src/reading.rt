@@ -8,7 +8,7 @@ ghost use Rattle.tool_words.specs.PlainJobs.{plain_tool_job};
 ghost use Rattle.tool_words.specs.declared.jobs.StackOp.{StackOp as Op};
 ghost use Rattle.run_answers.specs.Answers.{of_words};
 ghost use Rattle.run_answers.specs.Worlds.{world};
-ghost use Rattle.stack_cli.specs.Jobs.{job_of, stack_op};
+ghost use Rattle.stack_cli.specs.Jobs.{all_of, job_of, stack_all, stack_op};
 ghost use Rattle.stack_cli.specs.Comes.{StopsEarly};
 ghost use Rattle.stack_cli.specs.States.{IsState};
 
@@ -18,29 +18,31 @@ use patch_options::WordFault;
 use run_answers::Why;
 use stack_state::{Standing, read_next_save, read_stack};
 use std::alloc::Global;
-use tool_words::{StackOp, ToolJob, read_tool_words};
+use tool_words::{StackJob, ToolJob, read_tool_words};
 
 /// What the words ask for. The first names the tool.
-pub fn read_op(alloc: Global, words: &[String]) -> Result<StackOp, Why>
-    ensures job { IfOk result (λ op. job_of (map string_bytes words.now) ≡ Ok op) }
+pub fn read_job(alloc: Global, words: &[String]) -> Result<StackJob, Why>
+    ensures op { IfOk result (λ job. job_of (map string_bytes words.now) ≡ Ok job.op) }
+    ensures all { IfOk result (λ job. all_of (map string_bytes words.now) ≡ job.all) }
     ensures refused { IfErr result (λ why. (why ≡ Why.Memory) ⊎ ((fault : TheFault) × (why ≡ of_words fault) × (job_of (map string_bytes words.now) ≡ Err fault))) }
 {
     match read_tool_words(alloc, words) {
-        Ok(job) => {
-            let op = supported(&job);
-            drop(job);
-            op
+        Ok(read) => {
+            let job = supported(&read);
+            drop(read);
+            job
         }
         Err(fault) => Err(Why::from(fault)),
     }
 }
 
-fn supported(job: &ToolJob) -> Result<StackOp, Why>
-    ensures job { IfOk result (λ op. stack_op (Ok (plain_tool_job job.now)) ≡ Ok op) }
+fn supported(job: &ToolJob) -> Result<StackJob, Why>
+    ensures op { IfOk result (λ j. stack_op (Ok (plain_tool_job job.now)) ≡ Ok j.op) }
+    ensures all { IfOk result (λ j. stack_all (Ok (plain_tool_job job.now)) ≡ j.all) }
     ensures refused { IfErr result (λ why. (why ≡ Why.Usage) × (stack_op (Ok (plain_tool_job job.now)) ≡ Err WordFault.Usage)) }
 {
     match job {
-        ToolJob::Stack(job) => Ok(job.op),
+        ToolJob::Stack(job) => Ok(*job),
         _ => Err(Why::Usage),
     }
 }

@@ -68,11 +68,7 @@ returns-in-Stack-clause-making g c = λ is. absurd (gen-stack (sym is ∙ (sym c
 
 pub returns-in-Stack-clause-stack : goal.returns-in-Stack-clause-stack
 returns-in-Stack-clause-stack g c = λ is. record {
-  carries = c.run_stacking.ensures.carries;
-  words_first = c.run_stacking.ensures.words;
-  still = c.run_stacking.ensures.still;
-  silent = c.run_stacking.ensures.silent;
-  scratch = c.run_stacking.ensures.scratch;
+  runs = c.run_stacking.ensures.runs;
   input = refl;
   finder = refl;
   no_receipt = c.run_stacking.ensures.no_receipt;
