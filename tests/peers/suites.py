@@ -148,7 +148,15 @@ def quilt_suite(bin):
         given |= {"QUILTRC": top + "/test/test.quiltrc", "P": "patches/", "_P": "../patches/"}
         return whole(name, run("quilt", name, ["perl", "run", "-q", name + ".test"], top + "/test", **given)[0])
 
-    return at_once(one, (os.path.basename(path).removesuffix(".test") for path in glob.glob(top + "/test/*.test")))
+    yield configured(program, top)
+    yield from at_once(one, (os.path.basename(path).removesuffix(".test") for path in glob.glob(top + "/test/*.test")))
+
+
+def configured(program, top):
+    """Whether quilt's configure takes this program as its `patch`: it looks at its name and version."""
+    work = fresh("quilt-configure")
+    shutil.copytree(top, work, dirs_exist_ok=True)
+    return whole("configure", run("quilt", "with-patch", ["./configure", f"--with-patch={program}"], work)[0])
 
 
 def make_quilt(top):
