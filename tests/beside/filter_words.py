@@ -2,9 +2,8 @@
 import re
 
 LONG = [
-    (r'--clean', 'clean'),
     (r'--as-numbered-lines', 'as-numbered-lines'),
-    (r'--(strip|addprefix|addoldprefix|addnewprefix|remove-timestamps)\b', 'output-names'),
+    (r'--(strip|addprefix|addoldprefix|addnewprefix|remove-timestamps|clean)\b', 'output-names'),
     (r'--(annotate|number-files|list|filter|grep|hunks|lines|files|format|file|decompress)\b', 'filter-words'),
     (r'--(hunk|excl|fo)=', 'filter-words'),
 ]

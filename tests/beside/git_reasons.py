@@ -119,14 +119,6 @@ def newline_names(case, _gnu, _ours, differences):
     return of_names(differences, all_names(named) | spelled_names(named))
 
 
-@REASONS.of("renamed-already")
-def renamed_already(case, _gnu, _ours, differences):
-    """A rename whose source is gone and whose target is there."""
-    def is_done(source, target):
-        return source not in case.tree and target in case.tree
-    return of_names(differences, all_names(part for part in parts_of(case) if "rename" in part.marks and is_done(*sides(case, part))))
-
-
 def entangled(case):
     """Returns the names of renames and copies whose source or target another file patch touches, or whose target is there already."""
     parts = parts_of(case)

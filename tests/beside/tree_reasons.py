@@ -16,7 +16,7 @@ def obstacles(case):
 
 @REASONS.of("in-the-way")
 def in_the_way(case, gnu, ours, differences):
-    """A link or directory where a file, a backup or a reject should be; ours does nothing there, also where no backup and no reject comes."""
+    """A link or directory where a file, a backup or a reject should be; ours does nothing there but rejects, also where no backup comes."""
     odd, names = obstacles(case)
     barred = {name for name in names if odd & {name, name + b".rej", name + b".orig"}}
     found = about(case, of(differences, "missing", "extra", "kind"), {name + end for name in barred for end in (b"", b".rej", b".orig")} & odd)

@@ -40,8 +40,8 @@ def merge(case, gnu, ours, differences):
 
 @REASONS.of("backup-names")
 def backup_words(case, gnu, ours, differences):
-    """-V numbered and existing are refused, and so are empty values, but not that of -B."""
-    asked = re.search(r"-V \w|--version-control=|(-[BYz]|=)( |$)", words_of(case))
+    """Empty values are refused, but not that of -B."""
+    asked = re.search(r"(-[BYz]|=)( |$)", words_of(case))
     empty = gnu.status == [2] and any(b"backup prefix is empty" in text for text in gnu.out + gnu.err)
     return differences if empty or (asked and is_answered(case, gnu, ours)) else []
 

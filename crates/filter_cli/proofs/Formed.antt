@@ -13,7 +13,7 @@ use Rattle.format_convert.specs.declared.fault.ConvertFault.{ConvertFault}
 use Rattle.format_convert.specs.declared.fault.ConvertFault.TheVariants as convert
 use Rattle.filter_cli.specs.declared.form_fault.FormFault.{FormFault}
 use Rattle.filter_cli.specs.declared.form_fault.FormFault.TheVariants.{Filter, NoContext, Unfit}
-use Rattle.filter_cli.specs.Converting.{FormOutcome, Forms, IsConverted, Refuses, as_form, convert_outcome, of_convert}
+use Rattle.filter_cli.specs.Converting.{FormOutcome, Forms, IsConverted, Refuses, as_form, of_convert, styled_convert}
 use Rattle.whole_filters.specs.Outcomes as outcomes
 use Rattle.whole_filters.specs.Sifting.{HasTextCause}
 use Rattle.run_answers.specs.declared.why.Why.{Why}
@@ -33,10 +33,10 @@ same-form (Ok bytes) = refl
 same-form (Err fault) = refl
 
 module _ (form : Form) (j : PlainFilterJob) where
-  comes : j.format ≡ Some form → (f : Files) (left : List ℕ) (o : FormOutcome) → convert_outcome form j f left ≡ o → formed o ≡ in_form j.format j f left
+  comes : j.format ≡ Some form → (f : Files) (left : List ℕ) (o : FormOutcome) → styled_convert form j f left ≡ o → formed o ≡ in_form j.format j f left
   comes asked f left o is = sym (ap (λ (x : Option Form). in_form x j f left) asked ∙ ap formed is)
 
-  forms : (v : FinderView) → j.format ≡ Some form → Agrees (filter_job j) j.input j.select (HasTextCause j.select.skip_binary) ⊥ (IsConverted form j) v
+  forms : (v : FinderView) → j.format ≡ Some form → Agrees (filter_job j) j.input j.select (HasTextCause j.select.skip_binary) ⊥ (IsConverted (styled_convert form j)) v
   forms v asked = record {
     from = λ is. is;
     to = λ is. is;
@@ -49,7 +49,7 @@ module _ (form : Form) (j : PlainFilterJob) where
 
   module _ (u w : World) (asked : j.format ≡ Some form) (finder : FinderPasses u.finder w.finder) (quiet : IsQuiet u.tree) (unread : (IsStandard j.input → ⊥) → w.source ≡ u.source) where
     -- a refusal for the form
-    refuses_carry : (e : ConvertFault) → (of_form (of_convert e) ≡ whys.Done → ⊥) → is_own (of_form (of_convert e)) ≡ true → HasCause (of_form (of_convert e)) (Ok (filter_job j)) u w → Refuses form j u.tree w.tree u.source w.source u.out w.out e → Carries (Ok (filter_job j)) u w (of_form (of_convert e))
+    refuses_carry : (e : ConvertFault) → (of_form (of_convert e) ≡ whys.Done → ⊥) → is_own (of_form (of_convert e)) ≡ true → HasCause (of_form (of_convert e)) (Ok (filter_job j)) u w → Refuses form j (styled_convert form j) u.tree w.tree u.source w.source u.out w.out e → Carries (Ok (filter_job j)) u w (of_form (of_convert e))
     refuses_carry e never own cause x =
         let opens = opens_untouched x.untouched in
         let entry : IsAsAtEntry u w = record { told = opens.told; out = x.out; images = opens.images } in
@@ -71,8 +71,8 @@ module _ (form : Form) (j : PlainFilterJob) where
           tidy = λ none. tidy_same u.tree w.tree x.untouched.told;
         })
 
-    pub forms_carry : (r : Result (Unit {0}) FormFault) → Forms form j u.tree w.tree u.source w.source u.out w.out r → Carries (Ok (filter_job j)) u w (why_formed r)
-    forms_carry (Ok done) x = sifts_carry (filter_job j) j.input j.select (HasTextCause j.select.skip_binary) ⊥ (IsConverted form j) u w (forms u.finder asked) finder quiet unread (Ok done) x
-    forms_carry (Err (Filter fault)) x = sifts_carry (filter_job j) j.input j.select (HasTextCause j.select.skip_binary) ⊥ (IsConverted form j) u w (forms u.finder asked) finder quiet unread (Err fault) x
+    pub forms_carry : (r : Result (Unit {0}) FormFault) → Forms form j (styled_convert form j) u.tree w.tree u.source w.source u.out w.out r → Carries (Ok (filter_job j)) u w (why_formed r)
+    forms_carry (Ok done) x = sifts_carry (filter_job j) j.input j.select (HasTextCause j.select.skip_binary) ⊥ (IsConverted (styled_convert form j)) u w (forms u.finder asked) finder quiet unread (Ok done) x
+    forms_carry (Err (Filter fault)) x = sifts_carry (filter_job j) j.input j.select (HasTextCause j.select.skip_binary) ⊥ (IsConverted (styled_convert form j)) u w (forms u.finder asked) finder quiet unread (Err fault) x
     forms_carry (Err (NoContext line)) x = refuses_carry (convert.NoContext line) (λ is. absurd (cc)) refl (form, asked, x.cause) x
     forms_carry (Err (Unfit line)) x = refuses_carry (convert.Unfit line) (λ is. absurd (cc)) refl (inr (form, asked, x.cause)) x

@@ -67,7 +67,7 @@ module _ (form : Form) (j : PlainFilterJob) where
   -- ---- what a run promises
 
   module _ (new : PlainSelect) (t u : TreeView) (a b : SourceView) where
-    pub forms-unopened : (e : FilterFault) (c : SinkView) → Opens IsSet j.input j.select new t u a b (Err e) → Forms form j t u a b c c (Err (Filter e))
+    pub forms-unopened : (e : FilterFault) (c : SinkView) → Opens IsSet j.input j.select new t u a b (Err e) → Forms form j (convert_outcome form j) t u a b c c (Err (Filter e))
     forms-unopened e c h = record {
       untouched = h.untouched;
       source = h.source;
@@ -75,11 +75,11 @@ module _ (form : Form) (j : PlainFilterJob) where
       taken = h.taken;
       sink = sink_passes_none c;
       early = λ is. refl;
-      answers = λ f left told. answers-none (is_refusal e) e (IsConverted form j f left) c (λ refuses. outcome-is f left ∙ by-refused e (given j.input j.select f left) (h.refused refuses f left told));
+      answers = λ f left told. answers-none (is_refusal e) e (IsConverted (convert_outcome form j) f left) c (λ refuses. outcome-is f left ∙ by-refused e (given j.input j.select f left) (h.refused refuses f left told));
       cause = opening-cause e j.input j.select ⊥ t u a b c h.cause;
     }
 
-    pub forms-nothing : (c : SinkView) → Opens IsSet j.input j.select new t u a b (Ok None) → Forms form j t u a b c c (Ok tt)
+    pub forms-nothing : (c : SinkView) → Opens IsSet j.input j.select new t u a b (Ok None) → Forms form j (convert_outcome form j) t u a b c c (Ok tt)
     forms-nothing c h = record {
       untouched = h.untouched;
       source = h.source;
@@ -105,7 +105,7 @@ module _ (form : Form) (j : PlainFilterJob) where
       comes-so r is f left told = comes f left told ∙ ap (λ (x : Option ConvertFault). unless_unfit x bytes) is
 
       module _ {O : Type 0} (view : O → SinkView) (same : O → O → Type 0) (x y : O) where
-        pub forms-written : Converts view same x y (Ok tt) refused bytes → Forms form j t u a b (view x) (view y) (Ok tt)
+        pub forms-written : Converts view same x y (Ok tt) refused bytes → Forms form j (convert_outcome form j) t u a b (view x) (view y) (Ok tt)
         forms-written w = record {
           untouched = h.untouched;
           source = h.source;
@@ -121,7 +121,7 @@ module _ (form : Form) (j : PlainFilterJob) where
           refused-so : (e : ConvertFault) → refused ≡ Some e → HasFormCause form j e
           refused-so e is = (some.0, new, sym (form-by form (filter_with j new) some.0 v some.1) ∙ is)
 
-          pub forms-refused : (e : ConvertFault) → Converts view same x y (Err e) refused bytes → Forms form j t u a b (view x) (view y) (Err (of_convert e))
+          pub forms-refused : (e : ConvertFault) → Converts view same x y (Err e) refused bytes → Forms form j (convert_outcome form j) t u a b (view x) (view y) (Err (of_convert e))
           forms-refused (convert.NoContext line) w = record {
             untouched = h.untouched;
             source = h.source;
@@ -153,7 +153,7 @@ module _ (form : Form) (j : PlainFilterJob) where
 
     -- over what was opened
     pub forms-over : {O : Type 0} (view : O → SinkView) (same : O → O → Type 0) (x y : O) (o : Option SetView) (r : Result (Unit {0}) ConvertFault) → Opens IsSet j.input j.select new t u a b (Ok o) → IfSome o (IsReadOfSome new.skip_binary)
-        → IfSome o (λ v. Converts view same x y r (form_refusal form (left_patches (filter_with j new) (plain_patches v))) (converted form (filter_with j new) v)) → (o ≡ None → (r ≡ Ok tt) × (y ≡ x)) → Forms form j t u a b (view x) (view y) (of_converted r)
+        → IfSome o (λ v. Converts view same x y r (form_refusal form (left_patches (filter_with j new) (plain_patches v))) (converted form (filter_with j new) v)) → (o ≡ None → (r ≡ Ok tt) × (y ≡ x)) → Forms form j (convert_outcome form j) t u a b (view x) (view y) (of_converted r)
     forms-over view same x y None r h some converts none = let is = none refl in rw (is.0, is.1) (forms-nothing (view x) h)
     forms-over view same x y (Some v) (Ok done) h some converts none = forms-written v h view same x y converts
     forms-over view same x y (Some v) (Err e) h some converts none = forms-refused v h view same x y some e converts

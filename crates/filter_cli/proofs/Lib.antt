@@ -10,3 +10,4 @@ mod ByText
 mod Coming
 mod Written
 mod InForm
+mod Styled

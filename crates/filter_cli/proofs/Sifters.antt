@@ -11,7 +11,7 @@ use Rattle.tool_words.specs.PlainJobs.{PlainListJob, PlainFilterJob, PlainGrepJo
 use Rattle.tool_words.specs.PlainJobs.PlainToolJob.{list_job, filter_job, grep_job, recount_job, flip_job}
 use Rattle.whole_filters.specs.declared.fault.FilterFault.{FilterFault}
 use Rattle.whole_filters.specs.Outcomes.{IsOutcomeOf, recount_outcome, no_selection}
-use Rattle.filter_cli.specs.Outcomes.{IsGrepped, list_outcome, filter_outcome, grep_outcome}
+use Rattle.filter_cli.specs.Outcomes.{IsGrepped, list_outcome, grep_outcome, styled_filter}
 use Rattle.whole_filters.specs.Flips.{HasFlipCause, flip_outcome}
 use Rattle.whole_filters.specs.Sifting.{HasTextCause, HasCountCause}
 use Rattle.filter_cli.specs.Command.{in_form, written}
@@ -33,7 +33,7 @@ lists j v = record {
   uncut = λ why f u w. tt;
 }
 
-pub filters : (j : PlainFilterJob) (v : FinderView) → j.format ≡ None → Agrees (filter_job j) j.input j.select (HasTextCause j.select.skip_binary) ⊥ (IsOutcomeOf (filter_outcome j)) v
+pub filters : (j : PlainFilterJob) (v : FinderView) → j.format ≡ None → Agrees (filter_job j) j.input j.select (HasTextCause j.select.skip_binary) ⊥ (IsOutcomeOf (styled_filter j)) v
 filters j v plain = record {
   from = λ is. is;
   to = λ is. is;

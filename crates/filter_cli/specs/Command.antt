@@ -11,8 +11,8 @@ use Rattle.whole_filters.specs.declared.fault.FilterFault.{FilterFault}
 use Rattle.whole_filters.specs.declared.fault.FilterFault.TheVariants as faults
 use Rattle.filter_cli.specs.declared.form_fault.FormFault.{FormFault}
 use Rattle.filter_cli.specs.declared.form_fault.FormFault.TheVariants as forms
-use Rattle.filter_cli.specs.Converting.{convert_outcome}
-use Rattle.filter_cli.specs.Outcomes.{HasPatches, list_outcome, filter_outcome, grep_outcome}
+use Rattle.filter_cli.specs.Converting.{styled_convert}
+use Rattle.filter_cli.specs.Outcomes.{HasPatches, list_outcome, grep_outcome, styled_filter}
 use Rattle.whole_filters.specs.Outcomes.{given, recount_outcome}
 use Rattle.whole_filters.specs.Flips.{flip_outcome}
 use Rattle.whole_filters.specs.Parting.{part_lines, part_puts}
@@ -60,8 +60,8 @@ formed (Err fault) = refused (of_form fault)
 
 -- `filterdiff`, with the form that it is asked for or without one
 abbrev pub in_form : Option Form → PlainFilterJob → Files → List ℕ → Outcome
-in_form None j files left = written (filter_outcome j files left)
-in_form (Some form) j files left = formed (convert_outcome form j files left)
+in_form None j files left = written (styled_filter j files left)
+in_form (Some form) j files left = formed (styled_convert form j files left)
 
 -- the parts of a text are put, and their names are written
 abbrev pub parted : List ℕ → Result Cut FilterFault → Outcome

@@ -8,7 +8,8 @@ use Rattle.outside.specs.TreeView.{TreeView}
 use Rattle.outside.specs.Calls.{IsUntouched}
 use Rattle.outside.specs.SourceView.{SourceView, SourcePasses}
 use Rattle.outside.specs.SinkView.{SinkView}
-use Rattle.tool_words.specs.PlainJobs.{PlainSelect, PlainFilterJob}
+use Rattle.tool_words.specs.PlainJobs.{PlainSelect, PlainFilterJob, PlainStyle}
+use Rattle.patch_style.specs.Styled.{restyled}
 use Rattle.run_answers.specs.declared.fault.InputFault.{InputFault}
 use Rattle.run_answers.specs.Input.{IsStandard, TakesAtMost}
 use Rattle.patch_set.specs.declared.fault.SetFault.{SetFault}
@@ -74,33 +75,41 @@ converted_by form j (Err fault) = Err (Filter (faults.Input fault))
 unfoldable pub convert_outcome : Form → PlainFilterJob → Files → List ℕ → FormOutcome
 convert_outcome form j files left = converted_by form j (given j.input j.select files left)
 
--- ---- what a run promises
+-- the same with its style
+abbrev pub styled_form : PlainStyle → FormOutcome → FormOutcome
+styled_form style (Ok text) = Ok (restyled style text)
+styled_form style (Err fault) = Err fault
+
+abbrev pub styled_convert : Form → PlainFilterJob → Files → List ℕ → FormOutcome
+styled_convert form j files left = styled_form j.style (convert_outcome form j files left)
+
+-- ---- what a run promises, of which this is the outcome
 
 -- an outcome without a refusal for the form
 abbrev pub as_form : Outcome → FormOutcome
 as_form (Ok bytes) = Ok bytes
 as_form (Err fault) = Err (Filter fault)
 
-abbrev pub IsConverted : Form → PlainFilterJob → Files → List ℕ → Outcome → Type 0
-IsConverted form j files left o = convert_outcome form j files left ≡ as_form o
+abbrev pub IsConverted : (Files → List ℕ → FormOutcome) → Files → List ℕ → Outcome → Type 0
+IsConverted outcome files left o = outcome files left ≡ as_form o
 
 -- some text and some selection are refused so for the form
 abbrev pub HasFormCause : Form → PlainFilterJob → ConvertFault → Type 0
 HasFormCause form j fault = (text : List ℕ) × (s : PlainSelect) × (form_refused form (filter_with j s) text ≡ Some fault)
 
 -- a refusal for the form is the definition's, and comes before anything is written
-pub record Refuses (form : Form) (j : PlainFilterJob) (t u : TreeView) (a b : SourceView) (c d : SinkView) (fault : ConvertFault) : Type 0 where
+pub record Refuses (form : Form) (j : PlainFilterJob) (outcome : Files → List ℕ → FormOutcome) (t u : TreeView) (a b : SourceView) (c d : SinkView) (fault : ConvertFault) : Type 0 where
   pub untouched : IsUntouched t u
   pub source : SourcePasses a b
   pub read : IsStandard j.input → (left : List ℕ) → a.told ≡ Some left → b.told ≡ Some []
   pub taken : TakesAtMost 268435457 a b
   pub out : d ≡ c
-  pub answers : (f : Files) (left : List ℕ) → IsTold j.input j.select t a f left → convert_outcome form j f left ≡ Err (of_convert fault)
+  pub answers : (f : Files) (left : List ℕ) → IsTold j.input j.select t a f left → outcome f left ≡ Err (of_convert fault)
   pub cause : HasFormCause form j fault
 
 -- a run with a form is as that of a filter, but for the refusals for the form
-abbrev pub Forms : Form → PlainFilterJob → TreeView → TreeView → SourceView → SourceView → SinkView → SinkView → Result (Unit {0}) FormFault → Type 0
-Forms form j t u a b c d (Ok done) = Sifts j.input j.select (HasTextCause j.select.skip_binary) ⊥ (IsConverted form j) t u a b c d (Ok done)
-Forms form j t u a b c d (Err (Filter fault)) = Sifts j.input j.select (HasTextCause j.select.skip_binary) ⊥ (IsConverted form j) t u a b c d (Err fault)
-Forms form j t u a b c d (Err (NoContext line)) = Refuses form j t u a b c d (convert.NoContext line)
-Forms form j t u a b c d (Err (Unfit line)) = Refuses form j t u a b c d (convert.Unfit line)
+abbrev pub Forms : Form → PlainFilterJob → (Files → List ℕ → FormOutcome) → TreeView → TreeView → SourceView → SourceView → SinkView → SinkView → Result (Unit {0}) FormFault → Type 0
+Forms form j outcome t u a b c d (Ok done) = Sifts j.input j.select (HasTextCause j.select.skip_binary) ⊥ (IsConverted outcome) t u a b c d (Ok done)
+Forms form j outcome t u a b c d (Err (Filter fault)) = Sifts j.input j.select (HasTextCause j.select.skip_binary) ⊥ (IsConverted outcome) t u a b c d (Err fault)
+Forms form j outcome t u a b c d (Err (NoContext line)) = Refuses form j outcome t u a b c d (convert.NoContext line)
+Forms form j outcome t u a b c d (Err (Unfit line)) = Refuses form j outcome t u a b c d (convert.Unfit line)

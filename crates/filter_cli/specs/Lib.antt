@@ -9,3 +9,4 @@ pub mod Outcomes
 pub mod Sifting
 pub mod Converting
 pub mod InTurn
+pub mod Styling

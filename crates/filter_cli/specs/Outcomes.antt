@@ -1,7 +1,8 @@
 -- What a filter that chooses comes to, by its job, the files of the tree and what standard input has left alone (manual pages of patchutils).
 use Rattle.std.specs.Prelude.{◌≡◌, ◌≢◌, ◌⊎◌, ℕ, List, [], Bool, false, Option, None, Some, Result, Ok, Err}
 use Rattle.outside.specs.Files.{Files}
-use Rattle.tool_words.specs.PlainJobs.{PlainSelect, PlainListJob, PlainFilterJob, PlainGrepJob}
+use Rattle.tool_words.specs.PlainJobs.{PlainSelect, PlainListJob, PlainFilterJob, PlainGrepJob, PlainStyle}
+use Rattle.patch_style.specs.Styled.{restyled}
 use Rattle.run_answers.specs.declared.fault.InputFault.{InputFault}
 use Rattle.patch_set.specs.declared.fault.SetFault.{SetFault}
 use Rattle.patch_set.specs.declared.fault.SetFault.TheVariants.{Garbage}
@@ -39,6 +40,15 @@ list_outcome j files left = outcome_by (λ s text. listed_in (list_with j s) tex
 -- `filterdiff`
 unfoldable pub filter_outcome : PlainFilterJob → Files → List ℕ → Outcome
 filter_outcome j files left = outcome_by (λ s text. filtered_in (filter_with j s) text) (given j.input j.select files left)
+
+-- the same text with names and text as a style has them
+abbrev pub styled : PlainStyle → Outcome → Outcome
+styled style (Ok text) = Ok (restyled style text)
+styled style (Err fault) = Err fault
+
+-- `filterdiff` with its style: what it writes without one, restyled
+abbrev pub styled_filter : PlainFilterJob → Files → List ℕ → Outcome
+styled_filter j files left = styled j.style (filter_outcome j files left)
 
 -- `grepdiff`, for what a finder hits and a pattern that it takes
 unfoldable pub grep_outcome : (List ℕ → List ℕ → Bool) → PlainGrepJob → Files → List ℕ → Outcome

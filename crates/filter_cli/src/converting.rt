@@ -6,7 +6,7 @@ ghost use Rattle.patch_set.specs.SetView.{plain_patches};
 ghost use Rattle.format_convert.specs.Taken.{left_patches};
 ghost use Rattle.format_convert.specs.Converted.{Converts, converted};
 ghost use Rattle.format_convert.specs.Refusals.{refusal};
-ghost use Rattle.filter_cli.specs.Converting.{Forms, of_converted};
+ghost use Rattle.filter_cli.specs.Converting.{Forms, convert_outcome, of_converted};
 
 use crate::form_fault::FormFault;
 use format_convert::{ConvertFault, convert_patches};
@@ -21,28 +21,24 @@ use whole_filters::open_text;
 /// the first one is told that can't be.
 pub fn run_convert<T: Tree, I: Source, O: Sink>(
     alloc: Global,
-    job: FilterJob,
+    job: &mut FilterJob,
     form: Form,
     tree: &mut T,
     source: &mut I,
     out: &mut O,
 ) -> Result<(), FormFault>
-    ensures forms { Forms form (plain_filter_job job) (T.view tree.old) (T.view tree.new) (I.view source.old) (I.view source.new) (O.view out.old) (O.view out.new) result }
-    ensures unread { IsFile job.input → source.new ≡ source.old }
+    ensures forms { Forms form (plain_filter_job job.old) (convert_outcome form (plain_filter_job job.old)) (T.view tree.old) (T.view tree.new) (I.view source.old) (I.view source.new) (O.view out.old) (O.view out.new) result }
+    ensures style { job.new.style ≡ job.old.style }
+    ensures unread { IsFile job.old.input → source.new ≡ source.old }
     ensures rest { O.same_rest out.old out.new }
 {
-    let mut job = job;
     match open_text(alloc, &job.input, &mut job.select, tree, source) {
         Ok(opened) => {
-            let answer = form_answer(put_converted(&opened, &job, form, out));
+            let answer = form_answer(put_converted(&opened, job, form, out));
             drop(opened);
-            drop(job);
             answer
         }
-        Err(fault) => {
-            drop(job);
-            Err(FormFault::Filter(fault))
-        }
+        Err(fault) => Err(FormFault::Filter(fault)),
     }
 }
 

@@ -8,6 +8,7 @@ mod fault;
 mod form_fault;
 mod reading;
 pub mod sifting;
+mod styling;
 mod tools;
 mod turns;
 

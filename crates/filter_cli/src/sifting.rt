@@ -108,28 +108,23 @@ fn list_wholes<T: Tree, I: Source, O: Sink>(
 /// read is left to the end of the process.
 pub fn run_filter<T: Tree, I: Source, O: Sink>(
     alloc: Global,
-    job: FilterJob,
+    job: &mut FilterJob,
     tree: &mut T,
     source: &mut I,
     out: &mut O,
 ) -> Result<(), FilterFault>
-    requires { job.format ≡ None }
-    ensures sifts { Sifts job.input (plain_select job.select) (HasTextCause job.select.skip_binary) ⊥ (IsOutcomeOf (filter_outcome (plain_filter_job job))) (T.view tree.old) (T.view tree.new) (I.view source.old) (I.view source.new) (O.view out.old) (O.view out.new) result }
-    ensures unread { IsFile job.input → source.new ≡ source.old }
+    ensures sifts { Sifts job.old.input (plain_select job.old.select) (HasTextCause job.old.select.skip_binary) ⊥ (IsOutcomeOf (filter_outcome (plain_filter_job job.old))) (T.view tree.old) (T.view tree.new) (I.view source.old) (I.view source.new) (O.view out.old) (O.view out.new) result }
+    ensures style { job.new.style ≡ job.old.style }
+    ensures unread { IsFile job.old.input → source.new ≡ source.old }
     ensures rest { O.same_rest out.old out.new }
 {
-    let mut job = job;
     match open_digest(alloc, &job.input, &mut job.select, tree, source) {
         Ok(opened) => {
-            let answer = sink_answer(put_filtered(&opened, &job, out));
+            let answer = sink_answer(put_filtered(&opened, job, out));
             leave(opened);
-            drop(job);
             answer
         }
-        Err(fault) => {
-            drop(job);
-            Err(fault)
-        }
+        Err(fault) => Err(fault),
     }
 }
 

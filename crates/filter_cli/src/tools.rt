@@ -11,9 +11,9 @@ ghost use Rattle.filter_cli.specs.Carries.{Carries};
 ghost use Rattle.filter_cli.specs.Command.{Searches};
 ghost use Rattle.filter_cli.specs.Worlds.{world, Tells};
 
-use crate::converting::run_convert;
 use crate::fault::{answer, form_answer};
-use crate::sifting::{run_filter, run_grep, run_list};
+use crate::sifting::{run_grep, run_list};
+use crate::styling::{convert_styled, run_styled};
 use outside::{Finder, Sink, Source, Tree};
 use patch_options::Input;
 use run_answers::Why;
@@ -49,8 +49,8 @@ pub fn filterdiff<T: Tree, I: Source, O: Sink>(
     ensures rest { O.same_rest out.old out.new }
 {
     match job.format {
-        None => answer(run_filter(alloc, job, tree, source, out)),
-        Some(form) => form_answer(run_convert(alloc, job, form, tree, source, out)),
+        None => answer(run_styled(alloc, job, tree, source, out)),
+        Some(form) => form_answer(convert_styled(alloc, job, form, tree, source, out)),
     }
 }
 

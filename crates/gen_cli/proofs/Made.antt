@@ -9,10 +9,11 @@ use Rattle.tool_words.specs.PlainJobs.{PlainGenJob}
 use Rattle.gen_cli.specs.Jobs.{options_for}
 use Rattle.gen_cli.specs.Command.{patch_text}
 use Rattle.gen_cli.specs.Preparing.{IsMadeSet}
+use Rattle.patch_run.proofs.Ready.{read_names}
 
 made_so : (j : PlainGenJob) (v : SetView) → IsLawful (options_for j) → IsRead (options_for j) (patch_text j) v → IsFresh v → refusal (options_for j) (patch_text j) ≡ None → IsMadeSet j v
 made_so j v lawful read fresh free = record {
-  can = record { lawful = lawful; read = (patch_text j, read); verdicts = ap (λ l. length l) fresh.verdicts ∙ length-replicate (hunks_in v.patches) Untried };
+  can = record { lawful = lawful; names = read_names (options_for j) (patch_text j) v read; verdicts = ap (λ l. length l) fresh.verdicts ∙ length-replicate (hunks_in v.patches) Untried };
   free = free;
   read = read;
 }

@@ -10,13 +10,17 @@ use Rattle.header_record.specs.declared.Action.{Action}
 use Rattle.file_patch.specs.declared.derived.Target.{Target}
 use Rattle.file_patch.specs.Actions.{is_moved}
 use Rattle.name_choice.specs.declared.Choice.{Choice}
-use Rattle.name_choice.specs.declared.Choice.TheVariants.{Existing}
-use Rattle.name_choice.specs.Choice.{choice, choice_among, created, existing, existing_at, existing_or, first_place, names_of, side_of, source_place, to_create, IsWithin}
+use Rattle.name_choice.specs.declared.Choice.TheVariants.{Create, Existing, Nothing}
+use Rattle.name_choice.specs.Choice.{choice, choice_among, chosen_or, created, done_place, existing, existing_at, existing_or, first_place, moved_choice, names_of, side_of, source_place, to_create, IsWithin}
 
 -- a fault behind a call that left the tree untouched
 pub late_cause : {R E : Type 0} (u v w : TreeView) (r : Result R E) → IsUntouched u v → Rises v w → OnErr r (Rises u w)
 late_cause u v w (Ok x) untouched cause = tt
 late_cause u v w (Err e) untouched cause = rises_then u v w untouched.passes cause
+
+pub later_cause : {R E : Type 0} (u v w : TreeView) (r : Result R E) → IsUntouched u v → OnErr r (Rises v w) → OnErr r (Rises u w)
+later_cause u v w (Ok x) untouched cause = tt
+later_cause u v w (Err e) untouched cause = rises_then u v w untouched.passes cause
 
 module _ {given targets : List Target} (same : given ≡ targets) where
   -- ---- numbers within the list
@@ -50,12 +54,32 @@ module _ {given targets : List Target} (same : given ≡ targets) where
 
   -- ---- of a rename or a copy, or not
 
-  pub moved_choice : (action : Action) (side : Side) (creates operand reverse posix : Bool) (files : Files) → side ≡ side_of reverse → is_moved action ≡ true
-      → existing_at files (names_of given) (source_place action side) ≡ choice action creates (names_of targets) operand reverse posix files
+  pub of_moved : (action : Action) (side : Side) (creates operand reverse posix : Bool) (files : Files) → side ≡ side_of reverse → is_moved action ≡ true
+      → moved_choice files (names_of given) action side ≡ choice action creates (names_of targets) operand reverse posix files
   unfolding choice
-  moved_choice action side creates operand reverse posix files side-is moved = rw (same, side-is, moved) refl
+  of_moved action side creates operand reverse posix files side-is moved = rw (same, side-is, moved) refl
 
 pub among_choice : (action : Action) (names : List (List ℕ)) (creates operand reverse posix : Bool) (files : Files) → is_moved action ≡ false
     → choice_among names operand creates posix files ≡ choice action creates names operand reverse posix files
 unfolding choice
 among_choice action names creates operand reverse posix files moved = rw moved refl
+
+-- ---- the one name of a rename or a copy, or else the other one
+
+pub source-stands : (files : Files) (names : List (List ℕ)) (action : Action) (side : Side) (c : Choice) (place : Option ℕ) (k : ℕ) → place ≡ source_place action side
+    → c ≡ existing_at files names place → c ≡ Existing k → c ≡ moved_choice files names action side
+source-stands files names action side c place k at is some =
+    let here : existing_at files names (source_place action side) ≡ Existing k = ap (existing_at files names) (sym at) ∙ sym is ∙ some in
+    some ∙ sym (ap (chosen_or (existing_at files names (done_place action side))) here)
+
+pub source-made : (files : Files) (names : List (List ℕ)) (action : Action) (side : Side) (c : Choice) (place : Option ℕ) (k : ℕ) → place ≡ source_place action side
+    → c ≡ existing_at files names place → c ≡ Create k → c ≡ moved_choice files names action side
+source-made files names action side c place k at is some =
+    let here : existing_at files names (source_place action side) ≡ Create k = ap (existing_at files names) (sym at) ∙ sym is ∙ some in
+    some ∙ sym (ap (chosen_or (existing_at files names (done_place action side))) here)
+
+pub other-stands : (files : Files) (names : List (List ℕ)) (action : Action) (side : Side) (c d : Choice) (place other : Option ℕ) → place ≡ source_place action side → other ≡ done_place action side
+    → c ≡ existing_at files names place → c ≡ Nothing → d ≡ existing_at files names other → d ≡ moved_choice files names action side
+other-stands files names action side c d place other at other-at is none then_is =
+    let here : existing_at files names (source_place action side) ≡ Nothing = ap (existing_at files names) (sym at) ∙ sym is ∙ none in
+    then_is ∙ ap (existing_at files names) other-at ∙ sym (ap (chosen_or (existing_at files names (done_place action side))) here)

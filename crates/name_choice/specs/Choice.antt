@@ -91,10 +91,33 @@ source_place Plain side = None
 source_place New side = None
 source_place Deleted side = None
 
+-- the place of the name that a renamed file has once that is done: the other one; a copy leaves both, so nothing tells that it was done
+abbrev pub done_place : Action → Side → Option ℕ
+done_place Rename Forward = Some 1
+done_place Rename Reversed = Some 0
+done_place Copy side = None
+done_place Plain side = None
+done_place New side = None
+done_place Deleted side = None
+
 -- the name at a place, if that is in the tree
 abbrev pub existing_at : Files → List (List ℕ) → Option ℕ → Choice
 existing_at files names None = Nothing
 existing_at files names (Some k) = existing_if (is_there_at files names k) k
+
+-- one choice, or where it is of nothing the other one
+abbrev pub chosen_or : Choice → Choice → Choice
+chosen_or other Nothing = other
+chosen_or other (Existing k) = Existing k
+chosen_or other (Create k) = Create k
+
+-- the file has the name that it had before; else a rename counts as done before where the file has the other name:
+--   the name before | the other one | of a rename                    | of a copy
+--   there           | there or not  | the name before                | the name before
+--   not there       | there         | the other one, it's done       | nothing
+--   not there       | not there     | nothing                        | nothing
+abbrev pub moved_choice : Files → List (List ℕ) → Action → Side → Choice
+moved_choice files names action side = chosen_or (existing_at files names (done_place action side)) (existing_at files names (source_place action side))
 
 -- ---- the choice
 
@@ -106,7 +129,7 @@ side_of false = Forward
 -- for a file patch of this action that names a file which isn't there or doesn't, with these names: where there is an operand, where the file patch is taken reversed, and with option --posix
 unfoldable pub choice : Action → Bool → List (List ℕ) → Bool → Bool → Bool → Files → Choice
 choice action makes names operand reverse posix files = if is_moved action
-    then existing_at files names (source_place action (side_of reverse))
+    then moved_choice files names action (side_of reverse)
     else choice_among names operand makes posix files
 
 -- the names of targets

@@ -5,7 +5,6 @@ use Rattle.hunk_core.specs.declared.Form.TheVariants.{Unified, Context, Normal, 
 use Rattle.hunk_core.specs.declared.Hunk.{Hunk}
 use Rattle.hunk_core.specs.declared.Side.{Side}
 use Rattle.hunk_core.specs.declared.Side.TheVariants.{Forward, Reversed}
-use Rattle.hunk_core.specs.PlainHunk.{PlainHunk}
 use Rattle.hunk_core.specs.Sides.{start_of}
 use Rattle.hunk_core.specs.Turned.{turned}
 use Rattle.file_patch.specs.declared.Change.{Change}

@@ -3,7 +3,7 @@ ghost use Rattle.std.specs.Prelude.{◌≡◌, ◌<◌, ◌^◌, true, length, S
 ghost use Rattle.outside.specs.Files.{Files};
 ghost use Rattle.outside.specs.TreeView.{Rises};
 ghost use Rattle.outside.specs.Calls.{IsUntouched};
-ghost use Rattle.name_choice.specs.Choice.{existing_at, existing_if, is_there_at, names_of, source_place, IsWithin, IsFound};
+ghost use Rattle.name_choice.specs.Choice.{done_place, existing_at, existing_if, is_there_at, moved_choice, names_of, source_place, IsWithin, IsFound};
 
 use crate::Choice;
 use crate::search::is_there;
@@ -12,7 +12,8 @@ use header_record::Action;
 use hunk_core::Side;
 use outside::{Failed, Tree};
 
-/// Chooses the name that the file has, where the rename or the copy is taken from this side.
+/// Chooses the name that the file has, where the rename or the copy is taken from this side: the one that it had before,
+/// or the other one of a file that was renamed before.
 pub fn choose_moved<T: Tree>(
     targets: &[Target],
     action: Action,
@@ -24,16 +25,37 @@ pub fn choose_moved<T: Tree>(
     ensures cause { OnErr result (Rises (T.view tree.old) (T.view tree.new)) }
     ensures within { IfOk result (IsWithin (length targets.now)) }
     ensures chosen { IfOk result (λ chosen. (files : Files) → (T.view tree.old).told ≡ Some files
-        → chosen ≡ existing_at files (names_of targets.now) (source_place action side)) }
+        → chosen ≡ moved_choice files (names_of targets.now) action side) }
     ensures there { IfOk result (λ chosen. (files : Files) → (T.view tree.new).told ≡ Some files → IsFound targets.now files chosen) }
 {
-    match source_place(action, side) {
+    let source = existing_if_any(targets, source_place(action, side), tree)?;
+    match source {
+        Choice::Nothing => existing_if_any(targets, done_place(action, side), tree),
+        Choice::Existing(_) | Choice::Create(_) => Ok(source),
+    }
+}
+
+/// The name at a place, if there is such a place and the name is in the tree.
+fn existing_if_any<T: Tree>(
+    targets: &[Target],
+    place: Option<u32>,
+    tree: &mut T,
+) -> Result<Choice, Failed>
+    requires { length targets.now < 2 ^ 32 }
+    ensures untouched { IsUntouched (T.view tree.old) (T.view tree.new) }
+    ensures cause { OnErr result (Rises (T.view tree.old) (T.view tree.new)) }
+    ensures within { IfOk result (IsWithin (length targets.now)) }
+    ensures chosen { IfOk result (λ chosen. (files : Files) → (T.view tree.old).told ≡ Some files
+        → chosen ≡ existing_at files (names_of targets.now) place) }
+    ensures there { IfOk result (λ chosen. (files : Files) → (T.view tree.new).told ≡ Some files → IsFound targets.now files chosen) }
+{
+    match place {
         Some(place) => existing_at(targets, place, tree),
         None => Ok(Choice::Nothing),
     }
 }
 
-/// The place of the name that the file has.
+/// The place of the name that the file has before.
 fn source_place(action: Action, side: Side) -> Option<u32>
     ensures { result ≡ source_place action side }
 {
@@ -46,6 +68,19 @@ fn source_place(action: Action, side: Side) -> Option<u32>
         Action::Copy => match side {
             Side::Forward => Some(0),
             Side::Reversed => None,
+        },
+    }
+}
+
+/// The place of the name that a renamed file has once that is done.
+fn done_place(action: Action, side: Side) -> Option<u32>
+    ensures { result ≡ done_place action side }
+{
+    match action {
+        Action::Plain | Action::New | Action::Deleted | Action::Copy => None,
+        Action::Rename => match side {
+            Side::Forward => Some(1),
+            Side::Reversed => Some(0),
         },
     }
 }

@@ -1,8 +1,11 @@
 -- What the reading of words and patch text gives: a set that is to be carried out, or an early end.
-use Rattle.std.proofs.Common.{◌≡◌, true, List, ℕ, length, Some, None, Result, Ok, Err, refl, sym, ◌∙◌, ap, subst}
+use Rattle.std.proofs.Common.{◌≡◌, ◌⊎◌, inl, inr, Bool, true, false, List, ℕ, length, Option, Some, None, Result, Ok, Err, refl, sym, ◌∙◌, ap, subst}
+use Rattle.std.specs.Prelude.{IfOk, OnOk}
+use Rattle.std.proofs.lemmas.Bool.{false≢true}
+use Rattle.patch_options.specs.declared.options.BackupNumbers.{BackupNumbers}
 use Rattle.std.proofs.lemmas.List.{length-map, length-replicate}
 use Rattle.outside.specs.Files.{Files}
-use Rattle.outside.specs.TreeView.{TreeView, Rises}
+use Rattle.outside.specs.TreeView.{TreeView, Rises, Passes}
 use Rattle.outside.specs.SourceView.{SourceView}
 use Rattle.outside.specs.ScratchView.{ScratchView}
 use Rattle.outside.specs.SinkView.{SinkView}
@@ -25,8 +28,12 @@ use Rattle.patch_set.specs.SetView.{SetView, plain_patches, hunks_in, IsRead, Is
 use Rattle.patch_run.specs.Run.{Run, set_run}
 use Rattle.run_answers.specs.declared.why.Why.{Why}
 use Rattle.run_answers.specs.declared.why.Why.TheVariants.{Done, Rejected, Usage, Malformed, Garbage, EdReverse, OutMany, Reserved, NoPatchFile, TooLong, LongLine, FileTooLong, BadPattern, NoContext, Unfit, BadState, StackEnd, StackName, ReadFault, WriteFault, TreeFault, ScratchFault, Disagree, Memory}
-use Rattle.patch_run.specs.Outcome.{run_for, carried_out}
-use Rattle.patch_run.proofs.Matching.{run-match}
+use Rattle.patch_run.specs.Outcome.{carried_out}
+use Rattle.patch_run.proofs.Ready.{read_names}
+use Rattle.backup_numbers.specs.Numbering.{asks_numbers}
+use Rattle.patch_cli.specs.Numbered.{IsMade, numbered_run}
+use Rattle.patch_cli.proofs.Named.{names-made, long-made}
+use Rattle.patch_cli.proofs.Numbered.{run-made}
 use Rattle.patch_cli.specs.Command.{Reads, on_patches, on_refusal, on_input, on_job}
 use Rattle.patch_cli.specs.Worlds.{World, world, TellsFiles, TellsLeft, TellsInput, is_standard}
 use Rattle.patch_run.specs.Finishes.{CanApply}
@@ -46,30 +53,62 @@ tells_input (Err fault) u f left files rest = tt
 -- ---- a set that is read
 
 -- a text that isn't refused is carried out as the set that is read from it
-pub carried-match : (o : PlainOptions) (given : List ℕ) (v : SetView) → IsRead o given v → (f : Files) (left : List ℕ) → Reads o f left v.text (plain_patches v)
-    → on_job (Ok (patch o)) f left ≡ carried_out (length v.patches) (set_run o v f)
-carried-match o given v read f left reads =
+pub carried-match : (o : PlainOptions) (given : List ℕ) (before v : SetView) → IsRead o given before → (f : Files) → IsMade (asks_numbers o) o.numbers (Some f) before v → (left : List ℕ)
+    → Reads o f left before.text (plain_patches before) → on_job (Ok (patch o)) f left ≡ carried_out (length v.patches) (set_run o v f)
+carried-match o given before v read f made left reads =
     ap (λ (x : Result (List ℕ) InputFault). on_input o x f) reads.given
     ∙ ap (λ x. on_refusal o x (clean_of o reads.bytes) f) reads.free
     ∙ ap (λ (t : List ℕ). on_patches o t (patches_of (ways_of o) t) f) (sym reads.whole)
-    ∙ ap (λ (ps : Result (List PlainPatch) Fault). on_patches o v.text ps f) reads.patches
-    ∙ ap (λ (n : ℕ). carried_out n (run_for o v.text (plain_patches v) f)) (length-map v.patches (patch_of v.text))
-    ∙ ap (λ (r : Run). carried_out (length v.patches) r) (run-match o given v read f)
+    ∙ ap (λ (ps : Result (List PlainPatch) Fault). on_patches o before.text ps f) reads.patches
+    ∙ ap (λ (n : ℕ). carried_out n (numbered_run o before.text (plain_patches before) f)) (length-map before.patches (patch_of before.text) ∙ long-made (asks_numbers o) o.numbers (Some f) before v made)
+    ∙ ap (λ (r : Run). carried_out (length v.patches) r) (run-made o given before v read f made)
 
-can_apply : (o : PlainOptions) (text : List ℕ) (v : SetView) → IsLawful o → IsRead o text v → IsFresh v → CanApply o v
-can_apply o text v lawful read fresh = record {
+can_apply : (o : PlainOptions) (text : List ℕ) (told : Option Files) (before v : SetView) → IsLawful o → IsRead o text before → IsMade (asks_numbers o) o.numbers told before v → IsFresh v → CanApply o v
+can_apply o text told before v lawful read made fresh = record {
   lawful = lawful;
-  read = (text, read);
+  names = names-made (asks_numbers o) o.numbers told before v made (read_names o text before read);
   verdicts = ap (λ l. length l) fresh.verdicts ∙ length-replicate (hunks_in v.patches) Untried;
 }
 
 -- the patch text and the set that is read from it are what the options ask for
-pub asked_so : (o : PlainOptions) (bytes : List ℕ) (v : SetView) (t : TreeView) (s : SourceView) → IsLawful o → input.IsAnswer (Ok bytes) o.input o.dir t s
-    → IsRead o (clean_of o bytes) v → IsFresh v → refusal o (clean_of o bytes) ≡ None → (a : ScratchView) (c : SinkView) → IsAsked o v (world t a s c)
-asked_so o bytes v t s lawful answer read fresh free a c = record {
-  can = can_apply o (clean_of o bytes) v lawful read fresh;
+pub asked_so : (o : PlainOptions) (bytes : List ℕ) (before v : SetView) (t : TreeView) (s : SourceView) → IsLawful o → input.IsAnswer (Ok bytes) o.input o.dir t s
+    → IsRead o (clean_of o bytes) before → IsMade (asks_numbers o) o.numbers t.told before v → IsFresh v → refusal o (clean_of o bytes) ≡ None → (a : ScratchView) (c : SinkView) → IsAsked o v (world t a s c)
+asked_so o bytes before v t s lawful answer read made fresh free a c = record {
+  can = can_apply o (clean_of o bytes) t.told before v lawful read made fresh;
+  before = before;
+  given = clean_of o bytes;
+  read = read;
+  made = made;
   reads = λ f left told. record { bytes = bytes; given = answer f left told; free = free; whole = read.text; patches = read.patches };
 }
+
+fresh-made : (b : Bool) (numbers : BackupNumbers) (told : Option Files) (before v : SetView) → IsMade b numbers told before v → IsFresh before → IsFresh v
+fresh-made true numbers told before v is fresh = is.fresh
+fresh-made false numbers told before v is fresh = subst IsFresh (sym is) fresh
+
+-- the same of the set with its numbers, which were asked for over the same files
+pub asked_if : {E : Type 0} (o : PlainOptions) (bytes : List ℕ) (before : SetView) (t x : TreeView) (s : SourceView) → IsLawful o → input.IsAnswer (Ok bytes) o.input o.dir t s → IsRead o (clean_of o bytes) before → IsFresh before
+    → refusal o (clean_of o bytes) ≡ None → x.told ≡ t.told → (r : Result SetView E) → IfOk r (IsMade (asks_numbers o) o.numbers x.told before) → IfOk r (λ v. (a : ScratchView) (c : SinkView) → IsAsked o v (world t a s c))
+asked_if o bytes before t x s lawful answer read fresh free same (Ok v) made =
+    let is : IsMade (asks_numbers o) o.numbers t.told before v = subst (λ (told : Option Files). IsMade (asks_numbers o) o.numbers told before v) same made in
+    asked_so o bytes before v t s lawful answer read is (fresh-made (asks_numbers o) o.numbers t.told before v is fresh) free
+asked_if o bytes before t x s lawful answer read fresh free same (Err e) made = tt
+
+-- what is said of an answer holds where it is said of the answer of a call that comes last
+pub on_ok_so : {R E : Type 0} (P : Type 0) (r : Result R E) → P → OnOk r P
+on_ok_so P (Ok x) p = p
+on_ok_so P (Err e) p = tt
+
+pub standard_is : (i : Input) → is_standard i ≡ true → input.IsStandard i
+standard_is Standard is = tt
+standard_is (File name) is = absurd (false≢true is)
+
+-- a run ends early where the numbers couldn't be asked for
+pub numbers_stop : (why : Why) (job : Result PlainJob WordFault) (t x u : TreeView) (s r : SourceView) → Passes t x → ((why ≡ TreeFault) × Rises x u) ⊎ (why ≡ Memory) → (a : ScratchView) (c : SinkView) → StopsEarly why job (world t a s c) (world u a r c)
+numbers_stop why job t x u s r passes cause a c = elim cause [
+  | inl fault ↦ subst (λ (y : Why). StopsEarly y job (world t a s c) (world u a r c)) (sym fault.0) (record { cause = rises_then t x u passes fault.1; stops = tt })
+  | inr memory ↦ subst (λ (y : Why). StopsEarly y job (world t a s c) (world u a r c)) (sym memory) (record { cause = tt; stops = tt })
+]
 
 -- ---- early ends
 
@@ -95,7 +134,7 @@ module _ (t u : TreeView) (s : SourceView) (opens : Opens t u) where
   input_behind (Err fault) a c f left told = tt
 
   pub asked_behind : (o : PlainOptions) (v : SetView) (a : ScratchView) (c : SinkView) → IsAsked o v (world u a s c) → IsAsked o v (world t a s c)
-  asked_behind o v a c asked = record { can = asked.can; reads = λ f left told. asked.reads f left (input_behind (Ok (patch o)) a c f left told) }
+  asked_behind o v a c asked = record { can = asked.can; before = asked.before; given = asked.given; read = asked.read; made = subst (λ (x : Option Files). IsMade (asks_numbers o) o.numbers x asked.before v) opens.told asked.made; reads = λ f left told. asked.reads f left (input_behind (Ok (patch o)) a c f left told) }
 
   module _ (job : Result PlainJob WordFault) (w : TreeView) (r : SourceView) (a : ScratchView) (c : SinkView) where
     ends_behind : (why : Why) → EndsSo why job (world u a s c) → EndsSo why job (world t a s c)

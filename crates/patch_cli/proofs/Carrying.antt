@@ -27,7 +27,9 @@ use Rattle.run_answers.specs.Answers.{is_fault, of_run}
 use Rattle.run_answers.specs.Moments.{FirstPart, IsAsAtEntry, LeavesAllowed, Opens}
 use Rattle.patch_run.specs.Outcome.{Outcome, carried_out, end_of, receipt_if}
 use Rattle.patch_run.specs.Answer.{IsAnswer}
-use Rattle.patch_run.proofs.Matching.{cut-match}
+use Rattle.backup_numbers.specs.Numbering.{asks_numbers}
+use Rattle.patch_cli.specs.Numbered.{IsMade}
+use Rattle.patch_cli.proofs.Numbered.{cut-made}
 use Rattle.patch_run.proofs.Receipts.{memory_end, receipt_end, receipt_fault}
 use Rattle.patch_cli.specs.Answers.{Sort, sort_of, IsEarly}
 use Rattle.patch_cli.specs.Answers.Sort.{ended}
@@ -148,11 +150,15 @@ ended_cause false job u w = tt
 
 -- behind the reading
 module _ (words : List (List ℕ)) (u w : World) {v : TreeView} {o : PlainOptions} {set : SetView} (opens : Opens u.tree v) (job : job_of words ≡ Ok (patch o)) (asked : IsAsked o set u) where
-  reads : (f : Files) (left : List ℕ) → TellsInput (job_of words) u f left → Reads o f left set.text (plain_patches set)
+  reads : (f : Files) (left : List ℕ) → TellsInput (job_of words) u f left → Reads o f left asked.before.text (plain_patches asked.before)
   reads f left told = asked.reads f left (subst (λ j. TellsInput j u f left) job told)
 
+  -- the numbers are those of the files at entry
+  made : (f : Files) → u.tree.told ≡ Some f → IsMade (asks_numbers o) o.numbers (Some f) asked.before set
+  made f told = subst (λ (x : Option Files). IsMade (asks_numbers o) o.numbers x asked.before set) told asked.made
+
   has_read : (f : Files) (left : List ℕ) → TellsInput (job_of words) u f left → HasRead (job_of words) f left
-  has_read f left told = subst (λ j. HasRead j f left) (sym job) (set.text, plain_patches set, reads f left told)
+  has_read f left told = subst (λ j. HasRead j f left) (sym job) (asked.before.text, plain_patches asked.before, reads f left told)
 
   heeds_fault : (e : RunFault) (f : Files) (left : List ℕ) → TellsInput (job_of words) u f left → Heeds (sort_of (of_run e)) (of_run e) (job_of words) u w f left
   heeds_fault runs.Tree f left told = inr (has_read f left told)
@@ -165,7 +171,7 @@ module _ (words : List (List ℕ)) (u w : World) {v : TreeView} {o : PlainOption
 
   is_carried : (f : Files) (left : List ℕ) → TellsFiles (job_of words) u f → TellsLeft (job_of words) u left → command words f left ≡ carried_out (length set.patches) (set_run o set f)
   is_carried f left told tells =
-      ap (λ j. on_job j f left) job ∙ carried-match o asked.can.read.0 set asked.can.read.1 f left (reads f left (tells_input (job_of words) u f left told tells))
+      ap (λ j. on_job j f left) job ∙ carried-match o asked.given asked.before set asked.read f (made f told.files) left (reads f left (tells_input (job_of words) u f left told tells))
 
   tells_run : (f : Files) → TellsFiles (job_of words) u f → IsToldTo o v u.scratch f
   tells_run f told = told_to u w opens o f (subst (λ j. TellsFiles j u f) job told)
@@ -188,12 +194,12 @@ module _ (words : List (List ℕ)) (u w : World) {v : TreeView} {o : PlainOption
       → finishes.IsNotBegun v w.tree u.scratch w.scratch u.out w.out ⊎ doing.IsCutAt e w.tree u.out w.out o set.output (items_of set) f
       → IsAsAtEntry u.tree w.tree u.scratch w.scratch u.out w.out ⊎ AsksFor (job_of words) (IsCut (of_run e) u w f left)
   cuts_at e f left told tells = ⊎_elim (λ none. inl (not_begun u w opens none)) (λ at. inr (subst (λ j. AsksFor j (IsCut (of_run e) u w f left)) (sym job) (record {
-    text = set.text;
-    patches = plain_patches set;
+    text = asked.before.text;
+    patches = plain_patches asked.before;
     read = reads f left (tells_input (job_of words) u f left told tells);
     fault = e;
     is = refl;
-    cut = cut-match o asked.can.read.0 set asked.can.read.1 f e w.tree u.out w.out at;
+    cut = cut-made o asked.given asked.before set asked.read f (made f told.files) e w.tree u.out w.out at;
   })))
 
   breaks_fault : (e : RunFault) (f : Files) (left : List ℕ) → IsAsAtEntry u.tree w.tree u.scratch w.scratch u.out w.out ⊎ AsksFor (job_of words) (IsCut (of_run e) u w f left) → BreaksOff (sort_of (of_run e)) (of_run e) (job_of words) u w f left

@@ -1,3 +1,5 @@
+mod Named
+mod Numbered
 pub mod Asked
 pub mod Early
 pub mod Carrying

@@ -1,5 +1,5 @@
 -- With another plan a command does the same.
-use Rattle.std.proofs.Common.{◌≡◌, ◌∙◌, ℕ, List, Option, None, Some, Result, Ok, Err, refl, ap, arith}
+use Rattle.std.proofs.Common.{◌≡◌, ◌∙◌, ℕ, List, Option, None, Some, length, Result, Ok, Err, refl, ap}
 use Rattle.line_list.specs.Completed.{completed}
 use Rattle.hunk_core.specs.Reading.{Fault}
 use Rattle.outside.specs.Files.{Files}
@@ -14,14 +14,16 @@ use Rattle.patch_set.specs.Asked.{ways_of}
 use Rattle.patch_set.specs.declared.fault.SetFault.{SetFault}
 use Rattle.patch_set.specs.Refusals.{refusal}
 use Rattle.clean_text.specs.Reading.{clean_of}
-use Rattle.patch_run.specs.Outcome.{with_plan}
+use Rattle.patch_run.specs.Outcome.{carried_out, with_plan}
+use Rattle.patch_run.specs.Run.{Run, begun}
 use Rattle.patch_run.proofs.SamePlan.{refusal_same, run_same}
+use Rattle.patch_cli.specs.Numbered.{asked_output, asked_items}
 use Rattle.patch_cli.specs.Command.{on_patches, on_refusal, on_text, on_input, on_job}
 
 module _ (plan : PlanKind) (o : PlainOptions) (f : Files) where
   patches_same : (text : List ℕ) (ps : Result (List PlainPatch) Fault) → on_patches (with_plan plan o) text ps f ≡ on_patches o text ps f
   patches_same text (Err fault) = refl
-  patches_same text (Ok ps) = grind (arith, run_same plan o)
+  patches_same text (Ok ps) = ap (λ (r : Run). carried_out (length ps) r) (run_same plan o (asked_output o f ps) (asked_items o f text ps) (begun f))
 
   refused_same : (text : List ℕ) (fault : Option SetFault) → on_refusal (with_plan plan o) fault text f ≡ on_refusal o fault text f
   refused_same text (Some fault) = refl

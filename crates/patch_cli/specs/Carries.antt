@@ -11,7 +11,6 @@ use Rattle.file_patch.specs.PlainPatch.{PlainPatch}
 use Rattle.patch_options.specs.PlainJob.{PlainOptions, PlainJob}
 use Rattle.patch_options.specs.Words.{job_of}
 use Rattle.patch_options.specs.declared.options.WordFault.{WordFault}
-use Rattle.patch_set.specs.Named.{known_names, output_of}
 use Rattle.run_answers.specs.Input.{TakesAtMost}
 use Rattle.patch_run.specs.Applied.{Receipt}
 use Rattle.patch_run.specs.Doing.{IsCutAt}
@@ -24,7 +23,8 @@ use Rattle.run_answers.specs.Moments.{FirstPart, IsAsAtEntry, LeavesAllowed, Ope
 use Rattle.patch_cli.specs.Answers.{Sort, sort_of}
 use Rattle.patch_cli.specs.Answers.Sort.{ended, halted, refusal, unread, broken, starved}
 use Rattle.patch_run.specs.Scratches.{scratch_behind_all}
-use Rattle.patch_run.specs.Outcome.{Outcome, refused, items_for}
+use Rattle.patch_run.specs.Outcome.{Outcome, refused}
+use Rattle.patch_cli.specs.Numbered.{asked_output, asked_items}
 use Rattle.patch_run.specs.Answer.{HasReceipt, IsAnswer}
 use Rattle.patch_cli.specs.Command.{Reads, on_job, command}
 use Rattle.patch_cli.specs.Worlds.{World, TellsFiles, TellsLeft, TellsInput, AsksFor, reads_source, pages_all}
@@ -97,7 +97,7 @@ pub record IsCut (why : Why) (u w : World) (f : Files) (left : List ℕ) (o : Pl
   pub read : Reads o f left text patches
   pub fault : RunFault
   pub is : why ≡ of_run fault
-  pub cut : IsCutAt fault w.tree u.out w.out o (output_of o (known_names o patches)) (items_for o text patches) f
+  pub cut : IsCutAt fault w.tree u.out w.out o (asked_output o f patches) (asked_items o f text patches) f
 
 -- after a fault, or where memory ran out
 abbrev pub BreaksOff : Sort → Why → Result PlainJob WordFault → World → World → Files → List ℕ → Type 0

@@ -17,12 +17,13 @@ use Rattle.patch_set.specs.declared.fault.SetFault.{SetFault}
 use Rattle.patch_set.specs.Refusals.{refusal}
 use Rattle.run_answers.specs.declared.why.Why.TheVariants.{Malformed}
 use Rattle.run_answers.specs.Answers.{of_words, of_input, of_set}
-use Rattle.patch_run.specs.Outcome.{Outcome, refused, run_for, carried_out}
+use Rattle.patch_run.specs.Outcome.{Outcome, refused, carried_out}
+use Rattle.patch_cli.specs.Numbered.{numbered_run}
 
 -- a text that isn't refused has file patches, or is empty
 abbrev pub on_patches : PlainOptions → List ℕ → Result (List PlainPatch) Fault → Files → Outcome
 on_patches o text (Err fault) files = refused (Malformed fault.line fault.kind) files
-on_patches o text (Ok ps) files = carried_out (length ps) (run_for o text ps files)
+on_patches o text (Ok ps) files = carried_out (length ps) (numbered_run o text ps files)
 
 abbrev pub on_refusal : PlainOptions → Option SetFault → List ℕ → Files → Outcome
 on_refusal o (Some fault) text files = refused (of_set fault) files

@@ -4,3 +4,4 @@ pub mod Worlds
 pub mod Causes
 pub mod Opening
 pub mod Carries
+pub mod Numbered

@@ -4,7 +4,9 @@ use Rattle.outside.specs.Files.{Files}
 use Rattle.patch_options.specs.PlainJob.{PlainOptions, PlainJob}
 use Rattle.patch_options.specs.PlainJob.PlainJob.{patch}
 use Rattle.patch_options.specs.declared.options.WordFault.{WordFault}
-use Rattle.patch_set.specs.SetView.{SetView, plain_patches}
+use Rattle.patch_set.specs.SetView.{SetView, IsRead, plain_patches}
+use Rattle.backup_numbers.specs.Numbering.{asks_numbers}
+use Rattle.patch_cli.specs.Numbered.{IsMade}
 use Rattle.run_answers.specs.declared.why.Why.{Why}
 use Rattle.patch_cli.specs.Answers.{Sort, sort_of}
 use Rattle.patch_cli.specs.Answers.Sort.{ended, halted, refusal, unread, broken, starved}
@@ -14,10 +16,14 @@ use Rattle.patch_cli.specs.Worlds.{World, TellsInput}
 use Rattle.patch_cli.specs.Causes.{HasCause}
 use Rattle.patch_run.specs.Finishes.{CanApply}
 
--- where it is told what they read, the patch text that these options name is this set
+-- where it is told what they read, the patch text that these options name is this set, but for numbers of backups
 pub record IsAsked (o : PlainOptions) (v : SetView) (u : World) : Type 0 where
   pub can : CanApply o v
-  pub reads : (f : Files) (left : List ℕ) → TellsInput (Ok (patch o)) u f left → Reads o f left v.text (plain_patches v)
+  pub before : SetView
+  pub given : List ℕ
+  pub read : IsRead o given before
+  pub made : IsMade (asks_numbers o) o.numbers u.tree.told before v
+  pub reads : (f : Files) (left : List ℕ) → TellsInput (Ok (patch o)) u f left → Reads o f left before.text (plain_patches before)
 
 -- where it is told what is read, the job ends so
 abbrev pub EndsSo : Why → Result PlainJob WordFault → World → Type 0

@@ -15,7 +15,10 @@ ghost use Rattle.run_answers.specs.Answers.{of_words};
 ghost use Rattle.patch_cli.specs.Worlds.{world, is_standard, reads_source};
 ghost use Rattle.run_answers.specs.Moments.{Opens};
 ghost use Rattle.patch_cli.specs.Opening.{IsAsked, StopsEarly};
+ghost use Rattle.backup_numbers.specs.Numbering.{asks_numbers};
+ghost use Rattle.patch_cli.specs.Numbered.{IsMade};
 
+use backup_numbers::{NumberFault, asks_numbers, number_backups};
 use clean_text::read_clean;
 use outside::{Source, Tree};
 use patch_options::{Job, Options, read_words};
@@ -96,5 +99,26 @@ fn read_patches<T: Tree, I: Source>(
 {
     let text = read_input(alloc, &options.input, options.dir.as_ref(), tree, source)?;
     let set = read_clean(alloc, text, options)?;
-    Ok(set)
+    number_if(alloc, options, set, tree)
+}
+
+/// The set with the numbers that its backups get, where they can be asked for.
+fn number_if<T: Tree>(
+    alloc: Global,
+    options: &Options,
+    set: PatchSet,
+    tree: &mut T,
+) -> Result<PatchSet, Why>
+    ensures untouched { IsUntouched (T.view tree.old) (T.view tree.new) }
+    ensures cause { IfErr result (λ why. ((why ≡ Why.TreeFault) × Rises (T.view tree.old) (T.view tree.new)) ⊎ (why ≡ Why.Memory)) }
+    ensures made { IfOk result (IsMade (asks_numbers (plain_options options.now)) options.now.numbers (T.view tree.old).told set) }
+{
+    if !asks_numbers(options) {
+        return Ok(set);
+    }
+    match number_backups(alloc, options, set, tree) {
+        Ok(set) => Ok(set),
+        Err(NumberFault::Tree) => Err(Why::TreeFault),
+        Err(NumberFault::Memory) => Err(Why::Memory),
+    }
 }

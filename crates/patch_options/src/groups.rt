@@ -207,7 +207,7 @@ const OUTPUT: &[Word] = &[
         letter: Some('T'),
         name: "set-time",
         shown: "-T, --set-time",
-        help: "give files the times of their stamps, by local clocks",
+        help: "give files the times of their stamps (local)",
     },
     Word {
         form: WordForm::Switch,

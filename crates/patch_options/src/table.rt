@@ -1,14 +1,17 @@
 //! What each switch and each value of `patch` gives.
 ghost use Rattle.std.specs.Prelude.{◌≡◌, ◌⊎◌, ◌||◌, ◌<◌, codes, true, false, is_some, IfOk, IfErr, string_bytes, option_map, option_and_then, unwrap_or};
-ghost use Rattle.patch_options.specs.Forms.{number_of, buffer_of, usual_buffer, plan_of, reject_form_of, is_suffix, backup_numbers_of, is_get, is_quoting_style, read_only_of, sync_of, is_macro_name};
+ghost use Rattle.patch_options.specs.Forms.{number_of, buffer_of, usual_buffer, plan_of, reject_form_of, backup_numbers_of, read_only_of, sync_of};
 ghost use Rattle.patch_options.specs.HasNames.{HasNames};
 ghost use Rattle.patch_options.specs.PlainJob.{plain_options};
 ghost use Rattle.patch_options.specs.Simple.{rows_in};
-ghost use Rattle.patch_options.specs.Table.{uses, value_of, text_of, has_form, is_used, are_both_used, forms_named, exclusions_hold, is_backup_named, numbers_in, read_only_in, times_in, switches_agree, numbers_agree, words_agree, writing_agrees, others_agree, values_agree, is_command, options_of, only_form, mismatch_backup, sync_in, plan_in, buffer_size};
+ghost use Rattle.patch_options.specs.Table.{uses, value_of, text_of, is_used, are_both_used, forms_named, exclusions_hold, is_backup_named, numbers_in, read_only_in, times_in, switches_agree, numbers_agree, words_agree, writing_agrees, others_agree, values_agree, is_command, options_of, only_form, mismatch_backup, sync_in, plan_in, buffer_size};
 
+use crate::admitted::{
+    has_backup_kind, has_get_form, has_macro_name, has_quoting_style, has_read_only,
+    has_suffix_form, is_buffer, is_number, is_plan, is_reject_form, is_sync,
+};
 use crate::forms::{
-    backup_numbers_of, buffer_of, is_get, is_macro_name, is_quoting_style, is_suffix, number_of,
-    plan_of, read_only_of, reject_form_of, sync_of,
+    backup_numbers_of, buffer_of, number_of, plan_of, read_only_of, reject_form_of, sync_of,
 };
 use crate::names::{Names, read_names};
 use crate::{BackupNumbers, FileTimes, Options, PlanKind, ReadOnlyFiles, SyncKind, WordFault};
@@ -179,109 +182,6 @@ fn writing_agrees(matches: &ArgMatches<'_>) -> bool
     ensures { result ≡ writing_agrees (rows_in matches.now) }
 {
     has_read_only(value_of(matches, "read-only")) && is_sync(value_of(matches, "sync"))
-}
-
-/// Whether the text, if it was given, writes a number.
-pub fn is_number(text: Option<&str>) -> bool
-    ensures { result ≡ has_form (λ t. is_some (number_of t)) (text_of text.entry) }
-{
-    match text {
-        Some(text) => number_of(text).is_some(),
-        None => true,
-    }
-}
-
-/// Whether the text, if it was given, writes the size of a buffer.
-pub fn is_buffer(text: Option<&str>) -> bool
-    ensures { result ≡ has_form (λ t. is_some (buffer_of t)) (text_of text.entry) }
-{
-    match text {
-        Some(text) => buffer_of(text).is_some(),
-        None => true,
-    }
-}
-
-/// Whether the text, if it was given, names a plan.
-pub fn is_plan(text: Option<&str>) -> bool
-    ensures { result ≡ has_form (λ t. is_some (plan_of t)) (text_of text.entry) }
-{
-    match text {
-        Some(text) => plan_of(text).is_some(),
-        None => true,
-    }
-}
-
-/// Whether the text, if it was given, says when what is written is on the disk.
-pub fn is_sync(text: Option<&str>) -> bool
-    ensures { result ≡ has_form (λ t. is_some (sync_of t)) (text_of text.entry) }
-{
-    match text {
-        Some(text) => sync_of(text).is_some(),
-        None => true,
-    }
-}
-
-fn has_quoting_style(text: Option<&str>) -> bool
-    ensures { result ≡ has_form is_quoting_style (text_of text.entry) }
-{
-    match text {
-        Some(text) => is_quoting_style(text),
-        None => true,
-    }
-}
-
-fn has_read_only(text: Option<&str>) -> bool
-    ensures { result ≡ has_form (λ t. is_some (read_only_of t)) (text_of text.entry) }
-{
-    match text {
-        Some(text) => read_only_of(text).is_some(),
-        None => true,
-    }
-}
-
-fn is_reject_form(text: Option<&str>) -> bool
-    ensures { result ≡ has_form (λ t. is_some (reject_form_of t)) (text_of text.entry) }
-{
-    match text {
-        Some(text) => reject_form_of(text).is_some(),
-        None => true,
-    }
-}
-
-fn has_suffix_form(text: Option<&str>) -> bool
-    ensures { result ≡ has_form is_suffix (text_of text.entry) }
-{
-    match text {
-        Some(text) => is_suffix(text),
-        None => true,
-    }
-}
-
-fn has_backup_kind(text: Option<&str>) -> bool
-    ensures { result ≡ has_form (λ t. is_some (backup_numbers_of t)) (text_of text.entry) }
-{
-    match text {
-        Some(text) => backup_numbers_of(text).is_some(),
-        None => true,
-    }
-}
-
-fn has_macro_name(text: Option<&str>) -> bool
-    ensures { result ≡ has_form is_macro_name (text_of text.entry) }
-{
-    match text {
-        Some(text) => is_macro_name(text),
-        None => true,
-    }
-}
-
-fn has_get_form(text: Option<&str>) -> bool
-    ensures { result ≡ has_form is_get (text_of text.entry) }
-{
-    match text {
-        Some(text) => is_get(text),
-        None => true,
-    }
 }
 
 fn only_form(matches: &ArgMatches<'_>) -> Option<Form>

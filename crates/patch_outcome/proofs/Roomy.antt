@@ -34,8 +34,9 @@ module _ (n : NameMarks) (t : PlainTurn) (r : Row) (all : All (HasRoom n) t.item
   written-roomy output =
       let P = HasRoom n in
       let ts = t.item.targets in
-      for-first P t.output (option_and_then (written_at t.item) r.target) output
-      (for-then P (written_at t.item) r.target (λ k. for-first P (slice_get ts (written_place t.item.patch k)) (slice_get ts k) (for-at P ts all (written_place t.item.patch k)) (for-at P ts all k)))
+      for-first P t.output (option_and_then (written_at t.options.reverse t.item) r.target) output
+      (for-then P (written_at t.options.reverse t.item) r.target
+      (λ k. for-first P (slice_get ts (written_place t.options.reverse t.item.patch k)) (slice_get ts k) (for-at P ts all (written_place t.options.reverse t.item.patch k)) (for-at P ts all k)))
 
   pub renamed-roomy : ForSome (renamed_by t r) (HasRoom n)
   renamed-roomy =

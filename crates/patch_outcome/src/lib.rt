@@ -9,6 +9,7 @@ mod turn;
 mod written;
 
 pub use effects::make_effects;
-pub use saying::{is_kept, tell};
+pub use rejects::swap_rejects;
+pub use saying::{is_kept, is_unrejected, tell};
 pub use turn::Turn;
 pub use written::with_row;

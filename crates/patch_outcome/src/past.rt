@@ -64,18 +64,23 @@ fn row_count(patch: &FilePatch) -> usize
 }
 
 /// The target that a file patch with this row wrote, if it chose one.
-pub fn written_by<'a>(set: &'a PatchSet, patch: &'a FilePatch, row: Row) -> Option<&'a Target>
-    ensures target { (o : PlainOptions) → option_copied result ≡ written_by (alone o set.now patch.now) row }
+pub fn written_by<'a>(
+    set: &'a PatchSet,
+    patch: &'a FilePatch,
+    reverse: bool,
+    row: Row,
+) -> Option<&'a Target>
+    ensures target { (o : PlainOptions) → o.reverse ≡ reverse → option_copied result ≡ written_by (alone o set.now patch.now) row }
     ensures named { ForSome set.now.output IsNamed → All IsNamed patch.now.targets.items → ForSome (option_copied result) IsNamed }
 {
     if let Some(output) = set.output() {
         return Some(output);
     }
     let place = row.target?;
-    written_at(patch, place)
+    written_at(patch, reverse, place)
 }
 
-/// The target whose file it renamed, if it chose one.
+/// Of a rename the target that it read, if it chose one.
 pub fn renamed_by<'a>(patch: &'a FilePatch, row: Row) -> Option<&'a Target>
     ensures target { (o : PlainOptions) (v : SetView) → option_copied result ≡ renamed_by (alone o v patch.now) row }
 {
@@ -117,7 +122,11 @@ fn has_written(turn: &Turn<'_>, earlier: &Earlier<'_>, name: &Name) -> bool
     if !earlier.row.wrote {
         return false;
     }
-    if is_name(name, written_by(turn.task.set, earlier.patch, earlier.row)) {
+    let reverse = turn.task.options.reverse;
+    if is_name(
+        name,
+        written_by(turn.task.set, earlier.patch, reverse, earlier.row),
+    ) {
         return true;
     }
     is_name(name, renamed_by(earlier.patch, earlier.row))

@@ -60,7 +60,8 @@ pub fn put_rejects<T: Tree>(
     }
 }
 
-fn swap_rejects<T: Tree>(
+/// The same where they are.
+pub fn swap_rejects<T: Tree>(
     turn: &Turn<'_>,
     target: &Target,
     side: Side,
@@ -153,7 +154,8 @@ fn put_if_to<O: Sink>(
     if turn.task.options.dry_run || !has_rejects(turn.task.options, earlier) {
         return Ok(());
     }
-    match written_by(turn.task.set, earlier.patch, earlier.row) {
+    let reverse = turn.task.options.reverse;
+    match written_by(turn.task.set, earlier.patch, reverse, earlier.row) {
         Some(target) => {
             if is_same(name, &target.reject) {
                 put_own(

@@ -18,10 +18,16 @@ use outside::NameMarks;
 use patch_set::{PatchSet, Row};
 
 /// The names with those of a file patch more, counted from 0, that has this row.
-pub fn with_row(names: Option<NameMarks>, set: &PatchSet, patch: u32, row: Row) -> Option<NameMarks>
+pub fn with_row(
+    names: Option<NameMarks>,
+    set: &PatchSet,
+    patch: u32,
+    reverse: bool,
+    row: Row,
+) -> Option<NameMarks>
     requires within { patch < length set.now.patches }
     requires room { ForSome names (HaveRoom set.now.patches set.now.output) }
-    ensures written { (o : PlainOptions) (past : List Mark) (p : ThePatch) (vs : List Verdict) → p ≡ slice_index_or set.now.patches patch p
+    ensures written { (o : PlainOptions) → o.reverse ≡ reverse → (past : List Mark) (p : ThePatch) (vs : List Verdict) → p ≡ slice_index_or set.now.patches patch p
         → AreWritten names past → AreWritten result (past ++ mark_of (alone o set.now p) row vs ∷ []) }
     ensures room { ForSome result (HaveRoom set.now.patches set.now.output) }
     ensures kept { is_some result ≡ is_some names }
@@ -30,19 +36,19 @@ pub fn with_row(names: Option<NameMarks>, set: &PatchSet, patch: u32, row: Row) 
     if !row.wrote {
         return Some(kept);
     }
-    mark_both(set, &set.patches()[patch as usize], row, &mut kept);
+    mark_both(set, &set.patches()[patch as usize], reverse, row, &mut kept);
     Some(kept)
 }
 
 /// Marks what a file patch that wrote made or took away.
-fn mark_both(set: &PatchSet, patch: &FilePatch, row: Row, names: &mut NameMarks)
+fn mark_both(set: &PatchSet, patch: &FilePatch, reverse: bool, row: Row, names: &mut NameMarks)
     requires targets { All (HasRoom names.old) patch.now.targets.items }
     requires output { ForSome set.now.output (HasRoom names.old) }
-    ensures marked { (o : PlainOptions) (q : List ℕ) → is_marked names.new q
+    ensures marked { (o : PlainOptions) → o.reverse ≡ reverse → (q : List ℕ) → is_marked names.new q
         ≡ (is_name q (option_map (λ w. w.name) (renamed_by (alone o set.now patch.now) row)) || (is_name q (option_map (λ w. w.name) (written_by (alone o set.now patch.now) row)) || is_marked names.old q)) }
     ensures rooms { (q : List ℕ) → has_room names.new q ≡ has_room names.old q }
 {
-    mark(written_by(set, patch, row), names);
+    mark(written_by(set, patch, reverse, row), names);
     mark(renamed_by(patch, row), names);
 }
 

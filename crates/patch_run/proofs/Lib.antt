@@ -1,10 +1,11 @@
 mod First
 mod Folding
-mod Ready
+pub mod Ready
 mod Going
 mod RunEnds
 mod Applying
 mod Turning
+mod Refused
 mod EndCause
 mod DoneNone
 mod BackedUp

@@ -46,7 +46,7 @@ module _ (o : PlainOptions) (known : List (List ℕ)) (text : List ℕ) where
       ∙ ap (λ (others : List (List Target)). moved_of p ∷ others) (moved-match ps rest)
 
 module _ (o : PlainOptions) (given : List ℕ) (v : SetView) (read : IsRead o given v) where
-  items-read : items_for o v.text (plain_patches v) ≡ items_of v
+  pub items-read : items_for o v.text (plain_patches v) ≡ items_of v
   items-read =
       let known = known_names o (plain_patches v) in
       ap (λ (l : List BinaryChange). map (item_for o known l (map (moved_for o known) (plain_patches v))) (plain_patches v)) (sym read.skipped)

@@ -37,12 +37,12 @@ module _ (p : Target → Bool) where
       here None is = none_at t.item.targets k none.own less
       here (Some w) is = none_get t.item.targets k w none.own is
 
-      chosen : (o : Option Target) → slice_get t.item.targets (written_place t.item.patch k) ≡ o → p (unwrap_or (option_or o (slice_get t.item.targets k)) (target_at t.item.targets k)) ≡ false
+      chosen : (o : Option Target) → slice_get t.item.targets (written_place t.options.reverse t.item.patch k) ≡ o → p (unwrap_or (option_or o (slice_get t.item.targets k)) (target_at t.item.targets k)) ≡ false
       chosen None is = here (slice_get t.item.targets k) refl
-      chosen (Some w) is = none_get t.item.targets (written_place t.item.patch k) w none.own is
+      chosen (Some w) is = none_get t.item.targets (written_place t.options.reverse t.item.patch k) w none.own is
 
-      by : (o : Option Target) → t.output ≡ o → p (unwrap_or o (unwrap_or (written_at t.item k) (target_at t.item.targets k))) ≡ false
-      by None is = chosen (slice_get t.item.targets (written_place t.item.patch k)) refl
+      by : (o : Option Target) → t.output ≡ o → p (unwrap_or o (unwrap_or (written_at t.options.reverse t.item k) (target_at t.item.targets k))) ≡ false
+      by None is = chosen (slice_get t.item.targets (written_place t.options.reverse t.item.patch k)) refl
       by (Some w) is = (or_parts (p w) false (subst (λ (o : Option Target). list_any p (option_to_list o) ≡ false) is none.output)).0
 
   -- of none of a run, from the front
@@ -66,10 +66,10 @@ chosen_is (Some w) here d y is = refl
 pub written_is : (t : PlainTurn) (r : Row) (k : ℕ) → r.target ≡ Some k → k < length t.item.targets → written_by t r ≡ Some (written t k)
 written_is t r k at less = by t.output
   where
-    by : (o : Option Target) → option_or o (option_and_then (written_at t.item) r.target) ≡ Some (unwrap_or o (unwrap_or (written_at t.item k) (target_at t.item.targets k)))
+    by : (o : Option Target) → option_or o (option_and_then (written_at t.options.reverse t.item) r.target) ≡ Some (unwrap_or o (unwrap_or (written_at t.options.reverse t.item k) (target_at t.item.targets k)))
     by None =
-        at_target (written_at t.item) r.target k at
-        ∙ chosen_is (slice_get t.item.targets (written_place t.item.patch k)) (slice_get t.item.targets k) (target_at t.item.targets k) (target_at t.item.targets k) (slice_get-get_or t.item.targets k no_target less)
+        at_target (written_at t.options.reverse t.item) r.target k at
+        ∙ chosen_is (slice_get t.item.targets (written_place t.options.reverse t.item.patch k)) (slice_get t.item.targets k) (target_at t.item.targets k) (target_at t.item.targets k) (slice_get-get_or t.item.targets k no_target less)
     by (Some w) = refl
 
 pub renamed_is : (t : PlainTurn) (r : Row) (k : ℕ) → r.target ≡ Some k → k < length t.item.targets → renames t.item.patch ≡ true → renamed_by t r ≡ Some (target_at t.item.targets k)

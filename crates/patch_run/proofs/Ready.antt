@@ -20,6 +20,7 @@ use Rattle.patch_set.specs.Spans.{ArePlaced}
 use Rattle.patch_run.specs.Doing.{StaysSet}
 use Rattle.patch_task.specs.Named.{BeginsComponent, IsNamed}
 use Rattle.patch_outcome.specs.Ready.{IsFit, IsReady, AreNumbered}
+use Rattle.patch_run.specs.Finishes.{HasNames}
 
 begins : (dir : Option (List ℕ)) (name : List ℕ) → BeginsComponent (below dir name) (shown_from dir name)
 begins None name = inl refl
@@ -55,35 +56,50 @@ Few p = length p.targets.items < 2 ^ 32
 abbrev AreFit : FilePatch → Type 0
 AreFit p = All of_set.IsFit p.targets.items
 
-all-fit : (o : PlainOptions) (known : List (List ℕ)) (text : List ℕ) (ps : List FilePatch) → map (λ p. p.targets.items) ps ≡ map (λ p. targets_of o known (header_of text p.header)) ps
-    → All (IsLawfulPatch text) ps → All Few ps → All AreFit ps → hunks_in ps < 2 ^ 32 → All (IsFit text) ps
-all-fit o known text [] same lawful few fit hunks = All-nil (IsFit text)
-all-fit o known text (p ∷ ps) same lawful few fit hunks =
+abbrev Named : FilePatch → Type 0
+Named p = All IsNamed p.targets.items
+
+-- targets that were read have names
+each-named : (o : PlainOptions) (known : List (List ℕ)) (text : List ℕ) (ps : List FilePatch) → map (λ p. p.targets.items) ps ≡ map (λ p. targets_of o known (header_of text p.header)) ps → All AreFit ps → All Named ps
+each-named o known text [] same fit = All-nil Named
+each-named o known text (p ∷ ps) same fit =
     let targets : p.targets.items ≡ targets_of o known (header_of text p.header) = cc in
     let rest : map (λ (q : FilePatch). q.targets.items) ps ≡ map (λ (q : FilePatch). targets_of o known (header_of text q.header)) ps = cc in
-    let sum : hunks_in (p ∷ ps) ≡ row_count p.change + hunks_in ps = sum_by-cons (λ (x : FilePatch). row_count x.change) p ps in
     let named = all-named o known (names_of o (header_of text p.header)) (subst (λ (l : List Target). All of_set.IsFit l) targets (All-head AreFit p ps fit)) in
+    All-cons Named p ps (subst (λ (l : List Target). All IsNamed l) (sym targets) named) (each-named o known text ps rest (All-tail AreFit p ps fit))
+
+pub read_names : (o : PlainOptions) (given : List ℕ) (v : SetView) → IsRead o given v → HasNames v
+read_names o given v read =
+    let known = known_names o (plain_patches v) in
+    record {
+      few = read.names.few;
+      targets = each-named o known v.text v.patches read.names.targets read.names.fit;
+      output = λ some. subst (λ (x : Option Target). ForSome x IsNamed) (sym read.names.output)
+          (output-named o known o.output (subst (λ (x : Option Target). ForSome x of_set.IsFit) read.names.output (read.names.output_fit some)));
+    }
+
+all-fit : (text : List ℕ) (ps : List FilePatch) → All (IsLawfulPatch text) ps → All Few ps → All Named ps → hunks_in ps < 2 ^ 32 → All (IsFit text) ps
+all-fit text [] lawful few named hunks = All-nil (IsFit text)
+all-fit text (p ∷ ps) lawful few named hunks =
+    let sum : hunks_in (p ∷ ps) ≡ row_count p.change + hunks_in ps = sum_by-cons (λ (x : FilePatch). row_count x.change) p ps in
     All-cons (IsFit text) p ps
     (record {
       lawful = All-head (IsLawfulPatch text) p ps lawful;
       few = All-head Few p ps few;
-      named = subst (λ (l : List Target). All IsNamed l) (sym targets) named;
+      named = All-head Named p ps named;
       hunks = omega (arith, sum, hunks);
     })
-    (all-fit o known text ps rest (All-tail (IsLawfulPatch text) p ps lawful) (All-tail Few p ps few) (All-tail AreFit p ps fit) (omega (arith, sum, hunks)))
+    (all-fit text ps (All-tail (IsLawfulPatch text) p ps lawful) (All-tail Few p ps few) (All-tail Named p ps named) (omega (arith, sum, hunks)))
 
-pub ready : (o : PlainOptions) (given : List ℕ) (v : SetView) → IsLawful o → IsRead o given v → IsWhole v → 0 < length v.patches → IsReady o v
-ready o given v lawful read whole some =
-    let known = known_names o (plain_patches v) in
-    record {
-      patches = all-fit o known v.text v.patches read.names.targets whole.lawful read.names.few read.names.fit whole.hunks;
-      output = subst (λ (x : Option Target). ForSome x IsNamed) (sym read.names.output)
-          (output-named o known o.output (subst (λ (x : Option Target). ForSome x of_set.IsFit) read.names.output (read.names.output_fit some)));
-      reject_form = lawful.reject_form;
-      define = lawful.define;
-      rows = whole.rows;
-      count = whole.count;
-    }
+pub ready : (o : PlainOptions) (v : SetView) → IsLawful o → HasNames v → IsWhole v → 0 < length v.patches → IsReady o v
+ready o v lawful names whole some = record {
+  patches = all-fit v.text v.patches whole.lawful names.few names.targets whole.hunks;
+  output = names.output some;
+  reject_form = lawful.reject_form;
+  define = lawful.define;
+  rows = whole.rows;
+  count = whole.count;
+}
 
 pub numbered : (text : List ℕ) (start before : ℕ) (ps : List FilePatch) → ArePlaced text start before ps → AreNumbered before ps
 numbered text start before [] placed = tt
@@ -102,14 +118,6 @@ ready_still o old new stays rows was = record {
   count = omega (arith, was.count, ap (λ (l : List FilePatch). length l) stays.patches);
 }
 
--- a set is read whatever its verdicts are
-pub read_still : (o : PlainOptions) (given : List ℕ) (v : SetView) (vs : List Verdict) → IsRead o given v → IsRead o given (without_marks (with_verdicts v vs))
-read_still o given v vs read = record {
-  text = read.text;
-  ways = read.ways;
-  patches = read.patches;
-  regions = read.regions;
-  spans = read.spans;
-  skipped = read.skipped;
-  names = record { targets = read.names.targets; output = read.names.output; few = read.names.few; fit = read.names.fit; output_fit = read.names.output_fit };
-}
+-- a set has its names whatever its verdicts are
+pub names_still : (v : SetView) (vs : List Verdict) → HasNames v → HasNames (without_marks (with_verdicts v vs))
+names_still v vs names = record { few = names.few; targets = names.targets; output = names.output }

@@ -1,12 +1,11 @@
 -- The ends of a run over the file patches of a set.
-use Rattle.std.proofs.Common.{◌≡◌, ◌⊎◌, ℕ, ◌+◌, ◌<◌, List, [], ◌∷◌, ◌++◌, length, take, get_or, replicate, Bool, Option, Result, Ok, Err, IfErr, sym, ◌∙◌, ap, subst, arith, length-append}
+use Rattle.std.proofs.Common.{◌≡◌, inl, inr, ⊎_elim, ℕ, ◌+◌, ◌<◌, List, [], ◌∷◌, ◌++◌, length, take, get_or, Bool, Option, Result, Ok, Err, IfErr, sym, ◌∙◌, ap, subst, arith, length-append}
 use Rattle.std.proofs.lemmas.List.{take_more, take_more_set, take_all, same_from_push}
 use Rattle.std.specs.Result.{IsErrAnd}
 use Rattle.outside.specs.Files.{Files}
 use Rattle.outside.specs.TreeView.{TreeView, passes_both}
 use Rattle.outside.specs.SinkView.{SinkView, sink_passes_both}
 use Rattle.hunk_core.specs.declared.Verdict.{Verdict}
-use Rattle.hunk_core.specs.declared.Verdict.TheVariants.{Ignored}
 use Rattle.patch_task.specs.Outputs.{verdicts_over}
 use Rattle.file_patch.specs.declared.FilePatch.{FilePatch}
 use Rattle.file_patch.specs.PlainPatch.{patch_of, row_count}
@@ -23,11 +22,11 @@ use Rattle.patch_start.specs.Devices.{Told}
 use Rattle.patch_run.specs.OnePatch.{Item, ending}
 use Rattle.patch_run.specs.Run.{Run, items_of, set_run}
 use Rattle.patch_outcome.specs.Ready.{rows_in, turn_at}
-use Rattle.patch_run.specs.Doing.{QuietAfter, Does, IsCutOff, IsCutAt, Runs, NoneFailed, EndsSo, IsReceipt, StaysSet, IsPlacedOn, IsPlacedLast}
+use Rattle.patch_run.specs.Doing.{QuietAfter, Does, IsCutOff, IsCutAt, Runs, NoneFailed, EndsSo, IsReceipt, StaysSet, IsUntold, ArePlaced, IsPlacedOn, IsPlacedLast}
 use Rattle.patch_task.proofs.Tidy.{tidy_both, unless_then}
 use Rattle.patch_run.proofs.Folding.{cut_moments}
 use Rattle.patch_outcome.proofs.Marks.{rows-last}
-use Rattle.patch_run.proofs.Going.{Goes, IsAt, IsNext, run_to, same-items, same-run, all-run, plan_both, cause_then, at_fault, at_cut}
+use Rattle.patch_run.proofs.Going.{Goes, IsAt, IsNext, told_then, run_to, same-items, same-run, all-run, plan_both, cause_then, at_fault, at_cut}
 
 quiet_still : (R S : Type 0) (w : TreeView) (fault : RunFault) → QuietAfter {R = R} (Err fault) w → QuietAfter {R = S} (Err fault) w
 quiet_still R S w Tree quiet = tt
@@ -120,27 +119,35 @@ ends_so (Err Memory) runs f told none = runs.stays.cause
 -- ---- where hunks are placed
 
 -- the hunks of the last of the first file patches are placed only on these lines
-abbrev pub IsPlacedTo : PlainOptions → SetView → ℕ → List Verdict → List (List ℕ) → Type 0
-IsPlacedTo o v k verdicts lines = (p : FilePatch) (r : Row) (front : List FilePatch) (rows : List Row) → take k v.patches ≡ front ++ p ∷ [] → take k v.rows ≡ rows ++ r ∷ [] → IsPlacedOn o v.text p verdicts r lines
+abbrev pub IsPlacedTo : Type 0 → PlainOptions → SetView → ℕ → List Verdict → List (List ℕ) → Type 0
+IsPlacedTo Untold o v k verdicts lines = (p : FilePatch) (r : Row) (front : List FilePatch) (rows : List Row) → take k v.patches ≡ front ++ p ∷ [] → take k v.rows ≡ rows ++ r ∷ [] → IsPlacedOn Untold o v.text p verdicts r lines
 
-pub placed_none : (o : PlainOptions) (v : SetView) (vs : List Verdict) (lines : List (List ℕ)) → IsPlacedTo o v 0 vs lines
-placed_none o v vs lines p r front rows patches was =
+pub placed_none : (Untold : Type 0) (o : PlainOptions) (v : SetView) (vs : List Verdict) (lines : List (List ℕ)) → IsPlacedTo Untold o v 0 vs lines
+placed_none Untold o v vs lines p r front rows patches was =
     let more : length front + 1 ≡ 0 = sym (length-append front (p ∷ [])) ∙ sym (ap (λ (l : List FilePatch). length l) patches) in
     absurd (omega (arith, more))
 
-pub placed_next : (o : PlainOptions) (v : SetView) (k : ℕ) (p : FilePatch) (row : Row) (ws : List Verdict) (lines : List (List ℕ)) → k < length v.patches → p ≡ get_or v.patches k p → length v.rows ≡ length v.patches
-    → IsPlacedOn o v.text p ws row lines → IsPlacedTo o (with_row v k row) (k + 1) ws lines
-placed_next o v k p row ws lines lt at long placed q r front rows patches was =
+pub placed_next : (Untold : Type 0) (o : PlainOptions) (v : SetView) (k : ℕ) (p : FilePatch) (row : Row) (ws : List Verdict) (lines : List (List ℕ)) → k < length v.patches → p ≡ get_or v.patches k p → length v.rows ≡ length v.patches
+    → IsPlacedOn Untold o v.text p ws row lines → IsPlacedTo Untold o (with_row v k row) (k + 1) ws lines
+placed_next Untold o v k p row ws lines lt at long placed q r front rows patches was =
     let one : q ≡ p = (same_from_push front (take k v.patches) q p (sym patches ∙ take_more v.patches k p lt ∙ ap (λ (x : FilePatch). take k v.patches ++ x ∷ []) (sym at))).1 in
     let other : r ≡ row = (same_from_push rows (take k v.rows) r row (sym was ∙ take_more_set v.rows k row (omega (arith, lt, long)))).1 in
-    subst (λ (x : FilePatch). IsPlacedOn o v.text x ws r lines) (sym one) (subst (λ (x : Row). IsPlacedOn o v.text p ws x lines) (sym other) placed)
+    subst (λ (x : FilePatch). IsPlacedOn Untold o v.text x ws r lines) (sym one) (subst (λ (x : Row). IsPlacedOn Untold o v.text p ws x lines) (sym other) placed)
 
-pub placed_all : (o : PlainOptions) (v : SetView) (k : ℕ) (ws : List Verdict) (lines : List (List ℕ)) → k ≡ length v.patches → length v.rows ≡ length v.patches → IsPlacedTo o v k ws lines → IsPlacedLast o v ws lines
-placed_all o v k ws lines all long placed p r front rows patches was =
+pub placed_all : (Untold : Type 0) (o : PlainOptions) (v : SetView) (k : ℕ) (ws : List Verdict) (lines : List (List ℕ)) → k ≡ length v.patches → length v.rows ≡ length v.patches → IsPlacedTo Untold o v k ws lines → IsPlacedLast Untold o v ws lines
+placed_all Untold o v k ws lines all long placed p r front rows patches was =
     placed p r front rows (take_all k v.patches (omega (arith, all)) ∙ patches) (take_all k v.rows (omega (arith, all, long)) ∙ was)
 
-pub placed_rows : (o : PlainOptions) (text : List ℕ) (front rest : List Verdict) (p : FilePatch) (r : Row) (lines : List (List ℕ)) → length front ≡ p.first_verdict
-    → (take (row_count p.change) rest ≡ replicate (row_count p.change) Ignored) ⊎ (take (row_count p.change) rest ≡ verdicts_over o r.side (patch_of text p) lines)
-    → IsPlacedOn o text p (front ++ rest) r lines
-placed_rows o text front rest p r lines long placed =
-    subst (λ (l : List Verdict). (l ≡ replicate (row_count p.change) Ignored) ⊎ (l ≡ verdicts_over o r.side (patch_of text p) lines)) (sym (rows-last front rest p long)) placed
+pub placed_rows : (Untold : Type 0) (o : PlainOptions) (text : List ℕ) (front rest : List Verdict) (p : FilePatch) (r : Row) (lines : List (List ℕ)) → length front ≡ p.first_verdict
+    → ArePlaced Untold (row_count p.change) (take (row_count p.change) rest) (verdicts_over o r.side (patch_of text p) lines)
+    → IsPlacedOn Untold o text p (front ++ rest) r lines
+placed_rows Untold o text front rest p r lines long placed =
+    subst (λ (l : List Verdict). ArePlaced Untold (row_count p.change) l (verdicts_over o r.side (patch_of text p) lines)) (sym (rows-last front rest p long)) placed
+
+-- what isn't told behind a part of a run wasn't in front of it
+pub placed_earlier : (Later Untold : Type 0) (count : ℕ) (verdicts placed : List Verdict) → (Later → Untold) → ArePlaced Later count verdicts placed → ArePlaced Untold count verdicts placed
+placed_earlier Later Untold count verdicts placed back are =
+    ⊎_elim (λ ignored. inl ignored) (λ rest. inr (⊎_elim (λ same. inl same) (λ refused. inr (back refused.0, refused.1)) rest)) are
+
+pub untold_earlier : {u v : TreeView} {a b : Seen} {c d : SinkView} → Goes u v a b c d → IsUntold v b → IsUntold u a
+untold_earlier goes untold f told = let mid = told_then f goes told in untold mid.0 mid.1

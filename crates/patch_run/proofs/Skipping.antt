@@ -1,5 +1,6 @@
 -- When a file patch is skipped.
 use Rattle.std.proofs.Common.{◌≡◌, ◌⊎◌, inl, inr, ◌↔◌, ℕ, List, [], Bool, true, false, not, ◌&&◌, ◌||◌, if◌then◌else◌, Option, None, Some, is_none, is_some, refl, sym, ◌∙◌, ap}
+use Rattle.std.specs.Prelude.{◌==◌}
 use Rattle.std.proofs.lemmas.Bool.{false≢true}
 use Rattle.outside.specs.Files.{Files}
 use Rattle.hunk_core.specs.declared.Side.{Side}
@@ -11,7 +12,7 @@ use Rattle.name_choice.specs.declared.Choice.TheVariants.{Existing, Create, Noth
 use Rattle.say_text.specs.Messages.{silenced, reversed_line}
 use Rattle.say_text.specs.declared.standing.Standing.{Standing}
 use Rattle.patch_run.specs.OnePatch.{PlainTurn, Start, skips, refuses, tries, said_first, skips_at, lines_in, first_hunk, is_reversed, turns_round, on_direction, lacks_word, prereq_said, on_prereq, refusal_of, refused_or, on_taking, unfit, unfit_said, on_misfit, is_needed, is_forced, on_fitting, on_file, patching_said, on_meant, unmeant_said, on_target, on_choice, choice_of, skipped_said, own_start, start, bytes_of, written}
-use Rattle.patch_task.specs.Asking.{moves}
+use Rattle.patch_task.specs.Asking.{moves, source_at}
 use Rattle.patch_task.specs.Kinds.{is_meant}
 use Rattle.patch_task.specs.Turns.{is_source}
 use Rattle.patch_run.specs.Laws.{IsSkip, is_taken, is_over_needed, is_unsuited_if_meant, is_unsuited, is_skipped, goes_over_needed}
@@ -86,11 +87,12 @@ same_tests false true false true false rev false other never = refl
 same_tests false true true taken lacks rev false other never = refl
 same_tests false true true taken lacks rev true other never = absurd cc
 
-needed_stays : (moved source turns : Bool) → ((moved && source) && (turns && not moved)) ≡ false
-needed_stays false source turns = refl
-needed_stays true false turns = refl
-needed_stays true true true = refl
-needed_stays true true false = refl
+needed_stays : (moved first source turns : Bool) → (((moved && first) && source) && (turns && not moved)) ≡ false
+needed_stays false first source turns = refl
+needed_stays true false source turns = refl
+needed_stays true true false turns = refl
+needed_stays true true true true = refl
+needed_stays true true true false = refl
 
 module _ (t : PlainTurn) (k : ℕ) where
   skip_direction : (bytes : Option (List ℕ)) (was : Bool) (side : Side)
@@ -148,7 +150,7 @@ module _ (t : PlainTurn) (k : ℕ) where
       skip_first (patching_said t k) (on_file t f k side)
       ∙ skip_fitting bytes side (unfit t f k side)
       ∙ same_tests t.options.force (is_some (unfit t f k side)) (is_needed t k) (is_taken t f k) (lacks_word t.item.patch.header.prereq bytes) rev (turns_round t) other
-      (needed_stays (moves t.item.patch) (is_source t (written t k).name) (t.options.batch && not t.options.forward))
+      (needed_stays (moves t.item.patch) (k == source_at t.options.reverse) (is_source t (written t k).name) (t.options.batch && not t.options.forward))
 
   skip_target : (f : Files) → is_skip (on_target t f k) ≡ is_unsuited t f k
   skip_target f =

@@ -25,7 +25,7 @@ use Rattle.patch_task.specs.declared.placed.Made.{Made}
 use Rattle.patch_task.specs.Outputs.{IsSession}
 use Rattle.patch_task.specs.Making.{IsGone, IsPart, TidyAfter, UnlessFailed}
 use Rattle.patch_run.specs.OnePatch.{Item, PlainTurn, Tried, Story, Ending, ended, stopped, effects_of, tried_said, wrote, ending}
-use Rattle.hunk_core.specs.declared.Verdict.TheVariants.{Ignored}
+use Rattle.hunk_core.specs.declared.Verdict.TheVariants.{Ignored, Nowhere}
 use Rattle.patch_task.specs.Outputs.{verdicts_over}
 use Rattle.patch_options.specs.PlainJob.{PlainOptions}
 use Rattle.file_patch.specs.declared.FilePatch.{FilePatch}
@@ -256,10 +256,18 @@ pub record StaysSet (old new : SetView) : Type 0 where
   pub output : new.output ≡ old.output
   pub skipped : new.skipped ≡ old.skipped
 
--- the verdicts of a file patch are those of these lines, or all its hunks are ignored
-abbrev pub IsPlacedOn : PlainOptions → List ℕ → FilePatch → List Verdict → Row → List (List ℕ) → Type 0
-IsPlacedOn o text p verdicts r lines = (rows_in verdicts p ≡ replicate (row_count p.change) Ignored) ⊎ (rows_in verdicts p ≡ verdicts_over o r.side (patch_of text p) lines)
+-- not all is told: the tree doesn't tell its files, or the plan's scratch its bytes
+abbrev pub IsUntold : TreeView → Seen → Type 0
+IsUntold u a = (f : Files) → Told u a f → ⊥
+
+-- the verdicts of a file patch are these, or all its hunks are ignored; where not all is told, it may be refused too
+abbrev pub ArePlaced : Type 0 → ℕ → List Verdict → List Verdict → Type 0
+ArePlaced Untold count verdicts placed = (verdicts ≡ replicate count Ignored) ⊎ ((verdicts ≡ placed) ⊎ (Untold × (verdicts ≡ replicate count Nowhere)))
+
+-- they are those of these lines
+abbrev pub IsPlacedOn : Type 0 → PlainOptions → List ℕ → FilePatch → List Verdict → Row → List (List ℕ) → Type 0
+IsPlacedOn Untold o text p verdicts r lines = ArePlaced Untold (row_count p.change) (rows_in verdicts p) (verdicts_over o r.side (patch_of text p) lines)
 
 -- so are those of the last file patch
-abbrev pub IsPlacedLast : PlainOptions → SetView → List Verdict → List (List ℕ) → Type 0
-IsPlacedLast o v verdicts lines = (p : FilePatch) (r : Row) (front : List FilePatch) (rows : List Row) → v.patches ≡ front ++ p ∷ [] → v.rows ≡ rows ++ r ∷ [] → IsPlacedOn o v.text p verdicts r lines
+abbrev pub IsPlacedLast : Type 0 → PlainOptions → SetView → List Verdict → List (List ℕ) → Type 0
+IsPlacedLast Untold o v verdicts lines = (p : FilePatch) (r : Row) (front : List FilePatch) (rows : List Row) → v.patches ≡ front ++ p ∷ [] → v.rows ≡ rows ++ r ∷ [] → IsPlacedOn Untold o v.text p verdicts r lines

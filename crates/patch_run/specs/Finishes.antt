@@ -1,6 +1,7 @@
 -- The part of a run behind the reading of the patch text.
-use Rattle.std.specs.Prelude.{◌≡◌, ◌≢◌, ◌⊎◌, ℕ, ◌-◌, ◌^◌, ◌<◌, ◌≤◌, List, length, map, true, is_some, Some, None, Result, Err, OnOk, IfOk, IfErr}
+use Rattle.std.specs.Prelude.{◌≡◌, ◌≢◌, ◌⊎◌, ℕ, ◌-◌, ◌^◌, ◌<◌, ◌≤◌, List, length, map, All, true, is_some, Some, None, Result, Err, OnOk, IfOk, IfErr}
 use Rattle.std.specs.List.{flat_map}
+use Rattle.std.specs.Option.{ForSome}
 use Rattle.outside.specs.Faults.{HasRisen}
 use Rattle.outside.specs.Files.{Files}
 use Rattle.outside.specs.TreeView.{TreeView, Passes}
@@ -13,7 +14,8 @@ use Rattle.outside.specs.Quiet.{LeavesPrefix}
 use Rattle.hunk_core.specs.declared.Verdict.{Verdict}
 use Rattle.patch_options.specs.PlainJob.{PlainOptions, IsLawful}
 use Rattle.patch_set.specs.declared.set.Row.{Row}
-use Rattle.patch_set.specs.SetView.{SetView, IsRead, HasVerdicts}
+use Rattle.patch_set.specs.SetView.{SetView, HasVerdicts}
+use Rattle.patch_task.specs.Named.{IsNamed}
 use Rattle.patch_run.specs.Applied.{Receipt}
 use Rattle.patch_run.specs.Run.{Run, items_of, set_run}
 use Rattle.patch_run.specs.Doing.{QuietAfter, IsFar, IsCutOff, IsCutAt}
@@ -22,10 +24,16 @@ use Rattle.patch_task.specs.declared.fault.RunFault.{RunFault}
 use Rattle.patch_task.specs.declared.fault.RunFault.TheVariants.{Tree, Write, Scratch, LongLine, FileTooLong, Disagree, Memory}
 use Rattle.patch_run.specs.Scratches.{has_scratch, is_paged, scratch_behind_all}
 
--- a set that was read with these options
+-- a set whose targets can be counted, and have names that are apart from those of temporaries
+pub record HasNames (v : SetView) : Type 0 where
+  pub few : All (λ p. length p.targets.items < 2 ^ 32) v.patches
+  pub targets : All (λ p. All IsNamed p.targets.items) v.patches
+  pub output : 0 < length v.patches → ForSome v.output IsNamed
+
+-- a set that can be carried out with these options
 pub record CanApply (o : PlainOptions) (v : SetView) : Type 0 where
   pub lawful : IsLawful o
-  pub read : (given : List ℕ) × IsRead o given v
+  pub names : HasNames v
   pub verdicts : HasVerdicts v
 
 -- the tree tells these files, and the scratch its bytes where the plan has one

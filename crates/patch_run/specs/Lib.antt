@@ -2,6 +2,7 @@ pub mod OnePatch
 pub mod Run
 pub mod Applied
 pub mod Doing
+pub mod Refused
 pub mod Laws
 pub mod Scratches
 pub mod Finishes

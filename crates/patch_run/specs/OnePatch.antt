@@ -16,7 +16,7 @@ pub use Rattle.patch_outcome.specs.HunksSaid.{hunk_said, script_said, change_sai
 unfoldable pub use Rattle.patch_outcome.specs.HunksSaid.{hunks_said}
 pub use Rattle.patch_outcome.specs.Outcome.{is_unrejected, is_taken_away, is_kept, kept_said, named_reject, failures_said, own_reject_form, reject_form, has_rejects, own_reject, is_name, has_name, was_written, text_if, is_backup_asked, is_backup_apart, is_backup_due, keeps_old, is_old_kept, is_made_bare, is_written, is_unwanted, is_always_put, is_removal, is_moving, made_effects, written_effects, rejects_text, reject_effects}
 unfoldable pub use Rattle.patch_outcome.specs.Outcome.{tried_said, mark_of, rejected_before, effects_of, wrote}
-pub use Rattle.patch_start.specs.Start.{Start, skips, refuses, tries, said_first, skips_at, lines_in, first_hunk, is_reversed, turns, turns_round, on_direction, line_has_word, has_word, lacks_word, prereq_said, on_prereq, refusal_of, refused_or, on_taking, standing, unfit, unfit_said, on_misfit, is_needed, is_forced, on_unfit, on_fitting, on_file, origin_from, origin_of, named, patching_said, on_meant, unmeant_line, unmeant_said, on_target, on_choice, choice_of, is_first, skipped_said, fails_first, own_start}
+pub use Rattle.patch_start.specs.Start.{Start, skips, refuses, tries, said_first, skips_at, lines_in, first_hunk, is_reversed, turns, turns_round, on_direction, line_has_word, has_word, lacks_word, prereq_said, on_prereq, refusal_of, refused_or, on_taking, standing, unfit, unfit_said, on_misfit, is_needed, is_forced, on_unfit, on_fitting, on_file, origin_by, origin_of, named, patching_said, on_meant, unmeant_line, unmeant_said, on_target, on_choice, choice_of, is_first, skipped_said, fails_first, own_start}
 unfoldable pub use Rattle.patch_start.specs.Start.{start}
 unfoldable pub use Rattle.patch_start.specs.Skipping.{changes_said}
 

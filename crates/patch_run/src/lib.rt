@@ -7,6 +7,7 @@ mod exit;
 mod laws;
 mod one_patch;
 mod plans;
+mod refusing;
 mod set;
 
 pub use applied::Applied;

@@ -1,25 +1,27 @@
 //! One file patch.
 
-ghost use Rattle.std.specs.Prelude.{◌≡◌, ◌<◌, ◌≤◌, ◌⊎◌, ◌||◌, [], ℕ, List, All, true, false, length, replicate, is_some, Some, IfOk, IfErr, OnOk, OnErr};
+ghost use Rattle.std.specs.Prelude.{◌≡◌, ◌<◌, ◌≤◌, ◌||◌, if◌then◌else◌, [], ℕ, List, All, true, false, length, replicate, is_some, Some, IfOk, IfErr, OnOk, OnErr};
 ghost use Rattle.outside.specs.Files.{Files};
 ghost use Rattle.outside.specs.TreeView.{Passes};
 ghost use Rattle.outside.specs.SinkView.{SinkPasses, Writes};
 ghost use Rattle.outside.specs.Calls.{IsThere, IsUntouched};
 ghost use Rattle.outside.specs.Quiet.{IsQuiet};
-ghost use Rattle.hunk_core.specs.declared.Verdict.TheVariants.{Ignored};
+ghost use Rattle.hunk_core.specs.declared.Verdict.TheVariants.{Ignored, Nowhere};
 ghost use Rattle.line_store.specs.Store.{Keeps};
 ghost use Rattle.patch_task.specs.Outputs.{verdicts_over};
 ghost use Rattle.hunk_apply.specs.Session.{IsTried};
 ghost use Rattle.file_patch.specs.PlainPatch.{row_count};
-ghost use Rattle.patch_run.specs.OnePatch.{Tried, ignored_said, bytes_of, lines_in, effects_of, tried_said, some_failed, is_kept, fails_first, finished_at, ending};
+ghost use Rattle.patch_run.specs.OnePatch.{Tried, ignored_said, bytes_of, lines_in, effects_of, tried_said, some_failed, is_kept, fails_first, finished_at, written, ending};
+ghost use Rattle.patch_run.specs.Refused.{saves_refused, PutsRejects};
 ghost use Rattle.patch_task.specs.Outputs.{IsSession};
 ghost use Rattle.patch_start.specs.Trying.{IsBegun};
-ghost use Rattle.patch_run.specs.Doing.{Does, Stays, QuietAfter, IsDone, IsPartOf, IsDeviceFault, HasEndCause, IsOutcome, IsMadeWhole, IsOrdered};
+ghost use Rattle.patch_run.specs.Doing.{Does, Stays, QuietAfter, IsDone, IsPartOf, IsDeviceFault, HasEndCause, IsOutcome, IsMadeWhole, IsOrdered, IsUntold, ArePlaced};
 ghost use Rattle.patch_task.specs.Making.{IsGone, IsTidy, TidyAfter};
 ghost use Rattle.patch_start.specs.Devices.{Told};
 ghost use Rattle.patch_task.specs.Named.{IsNamed};
 ghost use Rattle.patch_outcome.specs.TurnView.{plain_turn, IsTurn};
 
+use crate::refusing::refuse_hunks;
 use file_patch::Target;
 use hunk_apply::Session;
 use hunk_core::{Side, Verdict};
@@ -35,7 +37,7 @@ use say_text::say_ignored;
 #[derive(Clone, Copy)]
 pub struct Done {
     pub row: Row,
-    /// A hunk failed, the file patch was skipped, also one without hunks, a file that was to be deleted wasn't, or a binary
+    /// A hunk failed, the file patch was skipped or refused, also one without hunks, a file that was to be deleted wasn't, or a binary
     /// change failed in front of it.
     pub is_bad: bool,
     /// How many effects there were.
@@ -62,11 +64,11 @@ pub fn apply_one<P: Plan, T: Tree, O: Sink>(
 
     // Whatever the tree tells, hunks are placed only on lines that the plan lends.
     ensures placed { IfOk result (λ done. (lines : List (List ℕ)) → (P.seen plan.new).told ≡ Some lines
-        → (verdicts.new ≡ replicate (length verdicts.old) Ignored)
-        ⊎ (verdicts.new ≡ verdicts_over (plain_turn turn.now).options done.row.side (plain_turn turn.now).item.patch lines)) }
+        → ArePlaced (IsUntold (T.view tree.old) (P.seen plan.old)) (length verdicts.old) verdicts.new (verdicts_over (plain_turn turn.now).options done.row.side (plain_turn turn.now).item.patch lines)) }
 {
     match start(&turn.task, plan, tree, out)? {
         Decision::Skip(row) => skip(turn, row, verdicts, out),
+        Decision::Refuse { place, side } => refuse(turn, place, side, verdicts, tree, out),
         Decision::Try { place, side } => try_at(turn, place, side, verdicts, plan, tree, out),
     }
 }
@@ -88,11 +90,65 @@ fn skip<O: Sink>(
 {
     verdicts.fill(Verdict::Ignored);
     tell_ignored(turn, out)?;
-    Ok(Done {
+    Ok(unplaced(row, 0))
+}
+
+/// No hunk of it was placed.
+fn unplaced(row: Row, effects: u64) -> Done
+    ensures { result ≡ record { row = row; is_bad = true; effects = effects } }
+{
+    Done {
         row,
         is_bad: true,
-        effects: 0,
-    })
+        effects,
+    }
+}
+
+/// Something is in its way: no hunk has a place, and all go to the reject file.
+fn refuse<T: Tree, O: Sink>(
+    turn: &Turn<'_>,
+    place: u32,
+    side: Side,
+    verdicts: &mut [Verdict],
+    tree: &mut T,
+    out: &mut O,
+) -> Result<Done, RunFault>
+    requires turn { IsTurn turn.now }
+    requires within { place < length turn.now.task.patch.now.targets.items }
+    requires rows { length verdicts.old ≡ row_count turn.now.task.patch.now.change }
+    requires quiet { IsQuiet (T.view tree.old) }
+    ensures tree { Passes (T.view tree.old) (T.view tree.new) }
+    ensures sink { SinkPasses (O.view out.old) (O.view out.new) }
+    ensures cause { IfErr result (λ e. HasEndCause e (T.view tree.old) (T.view tree.new) (O.view out.old) (O.view out.new)) }
+    ensures quiet { OnOk result (IsQuiet (T.view tree.new)) }
+    ensures tidy { OnOk result (IsTidy (T.view tree.old) (T.view tree.new)) }
+    ensures rest { O.same_rest out.old out.new }
+    ensures dry { turn.now.task.options.now.dry_run ≡ true → IsUntouched (T.view tree.old) (T.view tree.new) }
+    ensures nowhere { verdicts.new ≡ replicate (length verdicts.old) Nowhere }
+    ensures done { IfOk result (λ done. (done.row ≡ record { side = side; target = Some place; wrote = false }) × (done.is_bad ≡ true)) }
+    ensures put { IfOk result (λ done. done.effects ≡ 1 → PutsRejects (T.view tree.old) (T.view tree.new) (plain_turn turn.now) (written (plain_turn turn.now) place) side verdicts.new) }
+    ensures due { IfOk result (λ done. (f : Files) → (T.view tree.old).told ≡ Some f → done.effects ≡ (if saves_refused (plain_turn turn.now) then 1 else 0)) }
+    ensures few { IfOk result (λ done. done.effects ≤ 1) }
+{
+    verdicts.fill(Verdict::Nowhere);
+    match refuse_hunks(turn, place, side, verdicts, tree, out) {
+        Ok(saved) => Ok(done_refused(place, side, saved)),
+        Err(fault) => Err(fault),
+    }
+}
+
+/// What became of it: the reject file was put, or nothing was done.
+fn done_refused(place: u32, side: Side, saved: bool) -> Done
+    ensures row { result.row ≡ record { side = side; target = Some place; wrote = false } }
+    ensures bad { result.is_bad ≡ true }
+    ensures effects { result.effects ≡ (if saved then 1 else 0) }
+{
+    let row = Row {
+        side,
+        target: Some(place),
+        wrote: false,
+    };
+    unplaced(row, u64::from(saved))
 }
 
 /// Says that all hunks are ignored, where there is one.

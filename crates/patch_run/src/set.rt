@@ -1,6 +1,6 @@
 //! All file patches of a set.
 
-ghost use Rattle.std.specs.Prelude.{◌≡◌, ◌<◌, ◌≤◌, ◌+◌, ◌⊎◌, ◌||◌, ℕ, List, [], true, length, take, drop, replicate, slice_index_or, Some, IfOk, IfErr, OnOk};
+ghost use Rattle.std.specs.Prelude.{◌≡◌, ◌<◌, ◌≤◌, ◌+◌, ◌||◌, ℕ, List, [], true, length, take, drop, slice_index_or, Some, IfOk, IfErr, OnOk};
 ghost use Rattle.std.specs.Option.{ForSome};
 ghost use Rattle.outside.specs.Files.{Files};
 ghost use Rattle.outside.specs.Calls.{IsUntouched};
@@ -9,14 +9,14 @@ ghost use Rattle.file_patch.specs.declared.FilePatch.{FilePatch as ThePatch};
 ghost use Rattle.file_patch.specs.PlainPatch.{row_count};
 ghost use Rattle.patch_options.specs.PlainJob.{plain_options, IsLawful};
 ghost use Rattle.patch_set.specs.Room.{HaveRoom};
-ghost use Rattle.patch_set.specs.SetView.{IsRead, hunks_in};
+ghost use Rattle.patch_set.specs.SetView.{hunks_in};
+ghost use Rattle.patch_run.specs.Finishes.{HasNames};
 ghost use Rattle.patch_run.specs.Run.{items_of, set_run};
 ghost use Rattle.patch_outcome.specs.Ready.{IsReady, AreNumbered, AreWritten, marks, rows_in, turn_at};
 ghost use Rattle.patch_run.specs.OnePatch.{ending};
-ghost use Rattle.patch_run.specs.Doing.{Does, Runs, IsReceipt, IsCutAt, NoneFailed, EndsSo, StaysSet, IsPlacedOn, IsPlacedLast};
+ghost use Rattle.patch_run.specs.Doing.{Does, Runs, IsReceipt, IsCutAt, NoneFailed, EndsSo, StaysSet, IsUntold, ArePlaced, IsPlacedOn, IsPlacedLast};
 ghost use Rattle.patch_start.specs.Devices.{Told};
 ghost use Rattle.patch_outcome.specs.TurnView.{IsTurn, plain_turn};
-ghost use Rattle.hunk_core.specs.declared.Verdict.TheVariants.{Ignored};
 ghost use Rattle.patch_task.specs.Outputs.{verdicts_over};
 
 use crate::applied::Applied;
@@ -40,7 +40,7 @@ pub fn apply_set<P: Plan, T: Tree, O: Sink>(
     out: &mut O,
 ) -> Result<Applied, RunFault>
     requires lawful { IsLawful (plain_options options.now) }
-    requires read { (given : List ℕ) × IsRead (plain_options options.now) given set.old }
+    requires names { HasNames set.old }
     requires verdicts { length set.old.verdicts ≡ hunks_in set.old.patches }
     requires size { (P.seen plan.old).size ≡ options.now.buffer }
     requires quiet { IsQuiet (T.view tree.old) }
@@ -62,7 +62,7 @@ pub fn apply_set<P: Plan, T: Tree, O: Sink>(
     ensures verdicts { length set.new.verdicts ≡ length set.old.verdicts }
 
     // Whatever the tree tells, the hunks of the last file patch are placed only on lines that the plan lends.
-    ensures placed { OnOk result ((lines : List (List ℕ)) → (P.seen plan.new).told ≡ Some lines → IsPlacedLast (plain_options options.now) set.new set.new.verdicts lines) }
+    ensures placed { OnOk result ((lines : List (List ℕ)) → (P.seen plan.new).told ≡ Some lines → IsPlacedLast (IsUntold (T.view tree.old) (P.seen plan.old)) (plain_options options.now) set.new set.new.verdicts lines) }
 {
     let mut verdicts = set.take_verdicts();
     let written = set.take_marks();
@@ -90,7 +90,7 @@ fn apply_all<P: Plan, T: Tree, O: Sink>(
     out: &mut O,
 ) -> Result<Applied, RunFault>
     requires lawful { IsLawful (plain_options options.now) }
-    requires read { (given : List ℕ) × IsRead (plain_options options.now) given set.old }
+    requires names { HasNames set.old }
     requires verdicts { length verdicts.old ≡ hunks_in set.old.patches }
     requires written { AreWritten written [] }
     requires room { ForSome written (HaveRoom set.old.patches set.old.output) }
@@ -104,7 +104,7 @@ fn apply_all<P: Plan, T: Tree, O: Sink>(
     ensures dry { options.now.dry_run ≡ true → IsUntouched (T.view tree.old) (T.view tree.new) }
     ensures set { StaysSet set.old set.new }
     ensures verdicts { length verdicts.new ≡ length verdicts.old }
-    ensures placed { OnOk result ((lines : List (List ℕ)) → (P.seen plan.new).told ≡ Some lines → IsPlacedLast (plain_options options.now) set.new verdicts.new lines) }
+    ensures placed { OnOk result ((lines : List (List ℕ)) → (P.seen plan.new).told ≡ Some lines → IsPlacedLast (IsUntold (T.view tree.old) (P.seen plan.old)) (plain_options options.now) set.new verdicts.new lines) }
 {
     let count = set.patches().len() as u32;
     let mut is_bad = false;
@@ -112,7 +112,7 @@ fn apply_all<P: Plan, T: Tree, O: Sink>(
     let mut written = written;
     for k in 0..count {
         let done = apply_at(set, k, options, verdicts, &written, plan, tree, out)?;
-        written = with_row(written, set, k, done.row);
+        written = with_row(written, set, k, options.reverse, done.row);
         set.note(k, done.row);
         is_bad = either(is_bad, done.is_bad);
         effects += done.effects;
@@ -152,7 +152,7 @@ fn apply_at<P: Plan, T: Tree, O: Sink>(
     ensures rest { O.same_rest out.old out.new }
     ensures dry { options.now.dry_run ≡ true → IsUntouched (T.view tree.old) (T.view tree.new) }
     ensures few { IfOk result (λ done. done.effects ≤ 5) }
-    ensures placed { IfOk result (λ done. (p : ThePatch) (lines : List (List ℕ)) → p ≡ slice_index_or set.now.patches k p → (P.seen plan.new).told ≡ Some lines → IsPlacedOn (plain_options options.now) set.now.text p verdicts.new done.row lines) }
+    ensures placed { IfOk result (λ done. (p : ThePatch) (lines : List (List ℕ)) → p ≡ slice_index_or set.now.patches k p → (P.seen plan.new).told ≡ Some lines → IsPlacedOn (IsUntold (T.view tree.old) (P.seen plan.old)) (plain_options options.now) set.now.text p verdicts.new done.row lines) }
 {
     let patch = &set.patches()[k as usize];
     let (before, behind) = verdicts.split_at_mut(patch.first_verdict as usize);
@@ -189,8 +189,7 @@ fn apply_front<P: Plan, T: Tree, O: Sink>(
     ensures dry { turn.now.task.options.now.dry_run ≡ true → IsUntouched (T.view tree.old) (T.view tree.new) }
     ensures few { IfOk result (λ done. done.effects ≤ 5) }
     ensures placed { IfOk result (λ done. (lines : List (List ℕ)) → (P.seen plan.new).told ≡ Some lines
-        → (take (row_count turn.now.task.patch.now.change) verdicts.new ≡ replicate (row_count turn.now.task.patch.now.change) Ignored)
-        ⊎ (take (row_count turn.now.task.patch.now.change) verdicts.new ≡ verdicts_over (plain_turn turn.now).options done.row.side (plain_turn turn.now).item.patch lines)) }
+        → ArePlaced (IsUntold (T.view tree.old) (P.seen plan.old)) (row_count turn.now.task.patch.now.change) (take (row_count turn.now.task.patch.now.change) verdicts.new) (verdicts_over (plain_turn turn.now).options done.row.side (plain_turn turn.now).item.patch lines)) }
 {
     let count = turn.task.patch.hunks() as usize;
     let own = &mut verdicts[..count];

@@ -14,7 +14,7 @@ use Rattle.say_text.specs.declared.standing.Standing.{Standing}
 use Rattle.name_choice.specs.declared.Choice.{Choice}
 use Rattle.name_choice.specs.declared.Choice.TheVariants.{Existing, Create, Nothing}
 use Rattle.name_choice.specs.Better.{best_among}
-use Rattle.name_choice.specs.Choice.{is_there, needs_fewest, first_place, existing_or, created, existing, to_create, choice_among, existing_if, existing_at, source_place, choice, side_of, names_of, IsWithin}
+use Rattle.name_choice.specs.Choice.{is_there, needs_fewest, first_place, existing_or, created, existing, to_create, choice_among, existing_if, existing_at, chosen_or, done_place, moved_choice, source_place, choice, side_of, names_of, IsWithin}
 use Rattle.file_patch.specs.Actions.{is_moved}
 use Rattle.patch_set.specs.declared.set.Row.{Row}
 use Rattle.patch_task.specs.Kinds.{is_meant}
@@ -71,14 +71,23 @@ there_one f names k (Some name) is = elim (is_there f name) as (λ b. IsWithin (
   | false ↦ tt
 ]
 
-moved_one : (f : Files) (names : List (List ℕ)) (place : Option ℕ) → IsWithin (length names) (existing_at f names place)
-moved_one f names None = tt
-moved_one f names (Some k) = there_one f names k (slice_get names k) refl
+place_one : (f : Files) (names : List (List ℕ)) (place : Option ℕ) → IsWithin (length names) (existing_at f names place)
+place_one f names None = tt
+place_one f names (Some k) = there_one f names k (slice_get names k) refl
+
+or_one : (n : ℕ) (other c : Choice) → IsWithin n other → IsWithin n c → IsWithin n (chosen_or other c)
+or_one n other (Existing k) within one = one
+or_one n other (Create k) within one = one
+or_one n other Nothing within one = within
+
+moved_one : (f : Files) (names : List (List ℕ)) (action : Action) (side : Side) → IsWithin (length names) (moved_choice f names action side)
+moved_one f names action side =
+    or_one (length names) (existing_at f names (done_place action side)) (existing_at f names (source_place action side)) (place_one f names (done_place action side)) (place_one f names (source_place action side))
 
 choice_one : (action : Action) (makes : Bool) (names : List (List ℕ)) (operand reverse posix : Bool) (f : Files) → IsWithin (length names) (choice action makes names operand reverse posix f)
 unfolding choice
-choice_one action makes names operand reverse posix f = elim (is_moved action) as (λ b. IsWithin (length names) (if b then existing_at f names (source_place action (side_of reverse)) else choice_among names operand makes posix f)) [
-  | true ↦ moved_one f names (source_place action (side_of reverse))
+choice_one action makes names operand reverse posix f = elim (is_moved action) as (λ b. IsWithin (length names) (if b then moved_choice f names action (side_of reverse) else choice_among names operand makes posix f)) [
+  | true ↦ moved_one f names action (side_of reverse)
   | false ↦ among_one names operand makes posix f
 ]
 

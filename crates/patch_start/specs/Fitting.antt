@@ -7,7 +7,7 @@ use Rattle.file_patch.specs.Absent.{creates}
 use Rattle.name_choice.specs.Making.{may_make}
 use Rattle.say_text.specs.declared.standing.Standing.{Standing}
 use Rattle.say_text.specs.declared.standing.Standing.TheVariants.{Missing, Empty, Filled}
-use Rattle.patch_task.specs.Asking.{moves, is_bare}
+use Rattle.patch_task.specs.Asking.{is_bare}
 use Rattle.patch_start.specs.declared.fitting.Purpose.{Purpose}
 use Rattle.patch_start.specs.declared.fitting.Purpose.TheVariants.{Makes, MakesEmpty, Clears, RemovesEmpty, Changes}
 
@@ -19,9 +19,9 @@ standing_by (Some n) = if n == 0 then Empty else Filled
 abbrev pub standing_of : Option (List ℕ) → Standing
 standing_of bytes = standing_by (option_map length bytes)
 
--- what a file patch taken from this side is for: it makes a file where it says that none is there, and leaves no byte where it could make one from the other side; without a hunk the file has no byte
-abbrev pub purpose_of : Side → PlainPatch → Purpose
-purpose_of side p = if moves p then Makes
+-- what a file patch taken from this side is for, whether its file gets another name or not: it makes a file then, and where it says that none is there; it leaves no byte where it could make one from the other side; without a hunk the file has no byte
+abbrev pub purpose_of : Bool → Side → PlainPatch → Purpose
+purpose_of is_moving side p = if is_moving then Makes
     else if creates side p then (if is_bare p then MakesEmpty else Makes)
     else if may_make (other_side side) p then (if is_bare p then RemovesEmpty else Clears)
     else Changes

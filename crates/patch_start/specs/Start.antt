@@ -1,5 +1,5 @@
 -- How a file patch is taken: its file is chosen, and its hunks are tried from a side, or it is skipped (POSIX `patch`; GNU patch manual, "Invoking patch").
-use Rattle.std.specs.Prelude.{ℕ, List, [], ◌∷◌, ◌++◌, Bool, true, false, not, ◌&&◌, ◌||◌, if◌then◌else◌, bytes_eq, Option, None, Some, is_some, unwrap_or}
+use Rattle.std.specs.Prelude.{ℕ, List, [], ◌∷◌, ◌++◌, Bool, true, false, not, ◌&&◌, ◌||◌, ◌==◌, if◌then◌else◌, bytes_eq, slice_get, Option, None, Some, is_some, unwrap_or}
 use Rattle.std.specs.List.{list_any, slice_split}
 use Rattle.std.specs.FinMap.{get}
 use Rattle.line_list.specs.Lines.{lines}
@@ -25,8 +25,8 @@ use Rattle.name_choice.specs.Making.{names_new}
 use Rattle.say_text.specs.Messages.{silenced, patching_line, no_file_lines, prereq_line, reversed_line, unfit_line, type_line, submodule_line}
 use Rattle.say_text.specs.declared.standing.Standing.{Standing}
 use Rattle.say_text.specs.Origins.{PlainOrigin}
-use Rattle.say_text.specs.Origins.PlainOrigin.{Itself, RenamedFrom, CopiedFrom}
-use Rattle.patch_task.specs.Asking.{moves}
+use Rattle.say_text.specs.Origins.PlainOrigin.{Itself, RenamedFrom, RenamedBefore, CopiedFrom}
+use Rattle.patch_task.specs.Asking.{moves, moves_at, source_at}
 use Rattle.patch_task.specs.Kinds.{subject_of, is_meant, is_link}
 use Rattle.patch_task.specs.declared.kinds.Subject.{Subject}
 use Rattle.patch_task.specs.declared.kinds.Subject.TheVariants as subject
@@ -119,7 +119,7 @@ standing t files place = standing_of (if moves t.item.patch then get files (writ
 
 -- and if the file patch misfits that
 abbrev pub unfit : PlainTurn → Files → ℕ → Side → Option Standing
-unfit t files place side = misfit (purpose_of side t.item.patch) (standing t files place)
+unfit t files place side = misfit (purpose_of (moves_at t.options.reverse t.item.patch place) side t.item.patch) (standing t files place)
 
 abbrev pub unfit_said : PlainTurn → Standing → ℕ → Bool → List ℕ
 unfit_said t stands place is_turned = silenced t.options (unfit_line stands (shown (written t place)) is_turned)
@@ -132,7 +132,7 @@ on_misfit t stands place bytes side =
 
 -- a file would be renamed or copied onto one that a file patch of the text renames or copies
 abbrev pub is_needed : PlainTurn → ℕ → Bool
-is_needed t place = moves t.item.patch && is_source t (written t place).name
+is_needed t place = moves_at t.options.reverse t.item.patch place && is_source t (written t place).name
 
 -- with `-f` it isn't asked whether its file fits a file patch, but of one that is needed
 abbrev pub is_forced : PlainTurn → ℕ → Bool
@@ -148,16 +148,24 @@ on_fitting t place bytes side (Some stands) = on_unfit t stands place bytes side
 abbrev pub on_file : PlainTurn → Files → ℕ → Side → Start
 on_file t files place side = on_fitting t place (bytes_of t files place) side (unfit t files place side)
 
--- the name that a file had, which messages show behind the one that it gets
-abbrev pub origin_from : Action → List ℕ → PlainOrigin
-origin_from Plain name = Itself
-origin_from New name = Itself
-origin_from Deleted name = Itself
-origin_from Rename name = RenamedFrom name
-origin_from Copy name = CopiedFrom name
+-- the name that a file had, which messages show behind the one that it gets, or has got before
+abbrev pub renamed_before : Option Target → PlainOrigin
+renamed_before None = Itself
+renamed_before (Some source) = RenamedBefore (shown source)
+
+-- of a rename the chosen name, and where the other one was chosen, so that it was done before, the one that the file then had
+abbrev pub renamed_from : PlainTurn → ℕ → PlainOrigin
+renamed_from t place = if place == source_at t.options.reverse then RenamedFrom (shown (target_at t.item.targets place)) else renamed_before (slice_get t.item.targets (source_at t.options.reverse))
+
+abbrev pub origin_by : Action → PlainOrigin → List ℕ → PlainOrigin
+origin_by Plain renamed name = Itself
+origin_by New renamed name = Itself
+origin_by Deleted renamed name = Itself
+origin_by Rename renamed name = renamed
+origin_by Copy renamed name = CopiedFrom name
 
 abbrev pub origin_of : PlainTurn → ℕ → PlainOrigin
-origin_of t place = origin_from t.item.patch.header.action (shown (target_at t.item.targets place))
+origin_of t place = origin_by t.item.patch.header.action (renamed_from t place) (shown (target_at t.item.targets place))
 
 -- the file that is named first: the chosen one, or what it is renamed or copied to
 abbrev pub named : PlainTurn → ℕ → Target

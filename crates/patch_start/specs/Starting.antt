@@ -15,7 +15,7 @@ use Rattle.line_store.specs.declared.fault.OpenFault.TheVariants as open_fault
 use Rattle.patch_task.specs.declared.fault.RunFault.{RunFault}
 use Rattle.patch_task.specs.declared.fault.RunFault.TheVariants.{Tree, Write, Scratch, LongLine, FileTooLong, Disagree, Memory}
 use Rattle.patch_start.specs.declared.starting.Decision.{Decision}
-use Rattle.patch_start.specs.declared.starting.Decision.TheVariants.{Skip, Try}
+use Rattle.patch_start.specs.declared.starting.Decision.TheVariants.{Skip, Refuse, Try}
 use Rattle.patch_task.specs.Faults.{of_open}
 use Rattle.patch_start.specs.Start.{Start, skips, refuses, tries, lines_in, refusal_of}
 use Rattle.patch_start.specs.Devices.{Told, HasRunCause, scratch_with}
@@ -31,7 +31,7 @@ taken_in bytes (skips said row taken) = taken
 taken_in bytes (refuses said fault) = None
 taken_in bytes (tries said place side) = bytes place
 
--- the decision is that of the start; where hunks are tried, the plan stands for the lines of the chosen file
+-- the decision is that of the start, of which none refuses for what is in the way; where hunks are tried, the plan stands for the lines of the chosen file
 abbrev pub IsDecided : Decision → Seen → (ℕ → Option (List ℕ)) → Start → Type 0
 IsDecided d b bytes (skips said row taken) = d ≡ Skip row
 IsDecided d b bytes (refuses said fault) = ⊥
@@ -99,6 +99,7 @@ IsPresent bytes Nothing = Unit {0}
 -- the place of a decision is that of one of so many targets
 abbrev pub IsWithin : ℕ → Decision → Type 0
 IsWithin count (Skip row) = Unit {0}
+IsWithin count (Refuse place side) = place < count
 IsWithin count (Try place side) = place < count
 
 -- the file is taken, or the plan stands for no lines where it isn't there

@@ -6,7 +6,7 @@ ghost use Rattle.patch_start.specs.Start.{turns, turns_round, is_needed, is_forc
 ghost use Rattle.patch_task.specs.TaskView.{plain_task, IsTask};
 
 use patch_options::Options;
-use patch_task::{Task, is_source, written};
+use patch_task::{Task, is_source, moves_at, written};
 
 /// Whether this file patch is turned round where it doesn't suit its file; a rename or a copy never is.
 pub fn turns_round(task: &Task<'_>) -> bool
@@ -39,5 +39,5 @@ fn is_needed(task: &Task<'_>, place: u32) -> bool
     requires within { place < length task.now.patch.now.targets.items }
     ensures { result ≡ is_needed (plain_task task.now) place }
 {
-    task.patch.is_moved() && is_source(task, &written(task, place).name)
+    moves_at(task.patch, task.options.reverse, place) && is_source(task, &written(task, place).name)
 }

@@ -7,12 +7,13 @@ ghost use Rattle.outside.specs.TreeView.{Rises};
 ghost use Rattle.outside.specs.Calls.{IsUntouched};
 ghost use Rattle.patch_start.specs.Fitting.{standing_by, standing_of, purpose_of, misfits, misfit, is_asked};
 ghost use Rattle.patch_start.specs.Start.{standing, unfit};
+ghost use Rattle.patch_task.specs.Asking.{moves_at};
 ghost use Rattle.patch_task.specs.TaskView.{plain_task, IsTask};
 
 use hunk_core::Side;
 use name_choice::may_make;
 use outside::{Failed, Name, Tree};
-use patch_task::{Task, chosen, is_bare, written};
+use patch_task::{Task, chosen, is_bare, moves_at, written};
 use say_text::Standing;
 
 /// What a file patch does to its file, as far as it can find that done.
@@ -43,7 +44,7 @@ pub fn unfit<T: Tree>(
     ensures cause { OnErr result (Rises (T.view tree.old) (T.view tree.new)) }
     ensures unfit { IfOk result (λ s. (f : Files) → (T.view tree.old).told ≡ Some f → s ≡ unfit (plain_task task.now) f place side) }
 {
-    let purpose = purpose_of(task, side);
+    let purpose = purpose_of(task, place, side);
     if !is_asked(purpose) {
         return Ok(None);
     }
@@ -51,12 +52,12 @@ pub fn unfit<T: Tree>(
     Ok(misfit(purpose, standing))
 }
 
-fn purpose_of(task: &Task<'_>, side: Side) -> Purpose
+fn purpose_of(task: &Task<'_>, place: u32, side: Side) -> Purpose
     requires task { IsTask task.now }
-    ensures { result ≡ purpose_of side (plain_task task.now).item.patch }
+    ensures { result ≡ purpose_of (moves_at (plain_task task.now).options.reverse (plain_task task.now).item.patch place) side (plain_task task.now).item.patch }
 {
     let patch = task.patch;
-    if patch.is_moved() {
+    if moves_at(patch, task.options.reverse, place) {
         return Purpose::Makes;
     }
     let is_bare = is_bare(patch);

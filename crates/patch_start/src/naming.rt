@@ -1,14 +1,15 @@
 //! Which name is said first, and where its file comes from.
 
-ghost use Rattle.std.specs.Prelude.{◌≡◌, ◌<◌, length};
+ghost use Rattle.std.specs.Prelude.{◌≡◌, ◌<◌, length, slice_get};
 ghost use Rattle.say_text.specs.Origins.{plain_origin};
 ghost use Rattle.patch_task.specs.Named.{IsNamed};
-ghost use Rattle.patch_start.specs.Start.{named, origin_of};
+ghost use Rattle.patch_start.specs.Start.{named, origin_of, renamed_before, renamed_from};
+ghost use Rattle.patch_task.specs.Asking.{source_at};
 ghost use Rattle.patch_task.specs.TaskView.{plain_task, IsTask};
 
 use file_patch::Target;
 use header_record::Action;
-use patch_task::{Task, chosen, shown, written};
+use patch_task::{Task, chosen, shown, source_at, target_in, written};
 use say_text::Origin;
 
 /// The target that is named first.
@@ -33,7 +34,31 @@ pub fn origin<'a>(task: &Task<'a>, place: u32) -> Origin<'a>
 {
     match task.patch.header.action {
         Action::Plain | Action::New | Action::Deleted => Origin::Same,
-        Action::Rename => Origin::Renamed(shown(chosen(task, place))),
+        Action::Rename => renamed_from(task, place),
         Action::Copy => Origin::Copied(shown(chosen(task, place))),
+    }
+}
+
+/// Where the file of a rename comes from.
+fn renamed_from<'a>(task: &Task<'a>, place: u32) -> Origin<'a>
+    requires task { IsTask task.now }
+    requires within { place < length task.now.patch.now.targets.items }
+    ensures origin { plain_origin result ≡ renamed_from (plain_task task.now) place }
+{
+    if place == source_at(task.options.reverse) {
+        Origin::Renamed(shown(chosen(task, place)))
+    } else {
+        renamed_before(task)
+    }
+}
+
+/// The same where the rename was done before: the name that the file then had.
+fn renamed_before<'a>(task: &Task<'a>) -> Origin<'a>
+    requires task { IsTask task.now }
+    ensures origin { plain_origin result ≡ renamed_before (slice_get (plain_task task.now).item.targets (source_at (plain_task task.now).options.reverse)) }
+{
+    match target_in(task.patch, source_at(task.options.reverse)) {
+        Some(source) => Origin::AlreadyRenamed(shown(source)),
+        None => Origin::Same,
     }
 }

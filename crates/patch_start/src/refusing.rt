@@ -1,11 +1,11 @@
-//! File patches that are skipped for what they are about, or for what is in their way.
+//! File patches that are skipped for what they are about, or refused for what is in their way.
 
 ghost use Rattle.std.specs.Prelude.{◌≡◌, ◌<◌, length, false, Some, IfOk, IfErr};
 ghost use Rattle.outside.specs.SinkView.{Writes};
 ghost use Rattle.name_choice.specs.Choice.{side_of};
-ghost use Rattle.say_text.specs.Messages.{barred_line};
 ghost use Rattle.patch_task.specs.declared.fault.RunFault.TheVariants.{Write};
 ghost use Rattle.patch_task.specs.TaskView.{plain_task, IsTask};
+ghost use Rattle.patch_start.specs.Refusing.{barrier_line};
 ghost use Rattle.patch_start.specs.Start.{unmeant_line, unmeant_said};
 
 use crate::naming::named;
@@ -13,7 +13,7 @@ use crate::obstacles::Barrier;
 use crate::starting::{Decision, own_side, skip_at};
 use outside::{Failed, Sink};
 use patch_task::{RunFault, Subject, Task, shown, subject_of};
-use say_text::{say_barred, say_submodule, say_type_change};
+use say_text::{say_barred, say_read_only, say_submodule, say_type_change};
 
 /// Something is in its way.
 pub fn on_barred<O: Sink>(
@@ -22,13 +22,26 @@ pub fn on_barred<O: Sink>(
     barrier: Barrier<'_>,
     out: &mut O,
 ) -> Result<Decision, RunFault>
-    ensures writes { Writes (O.view out.old) (O.view out.new) result (barred_line barrier.entry.link barrier.entry.name.now) }
+    ensures writes { Writes (O.view out.old) (O.view out.new) result (barrier_line barrier.entry) }
     ensures fault { IfErr result (λ e. e ≡ Write) }
     ensures rest { O.same_rest out.old out.new }
-    ensures row { IfOk result (λ d. d ≡ Decision.Skip (record { side = side_of task.now.options.now.reverse; target = Some place; wrote = false })) }
+    ensures refused { IfOk result (λ d. d ≡ Decision.Refuse place (side_of task.now.options.now.reverse)) }
 {
-    say_barred(barrier.link, barrier.name, out)?;
-    Ok(skip_at(place, own_side(task)))
+    say_barrier(barrier, out)?;
+    Ok(Decision::Refuse {
+        place,
+        side: own_side(task),
+    })
+}
+
+fn say_barrier<O: Sink>(barrier: Barrier<'_>, out: &mut O) -> Result<(), Failed>
+    ensures writes { Writes (O.view out.old) (O.view out.new) result (barrier_line barrier.entry) }
+    ensures rest { O.same_rest out.old out.new }
+{
+    match barrier {
+        Barrier::Kind { name, link } => say_barred(link, name, out),
+        Barrier::ReadOnly { name } => say_read_only(name, out),
+    }
 }
 
 /// Its modes ask for what isn't done.

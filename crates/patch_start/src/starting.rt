@@ -35,6 +35,8 @@ use say_text::{Standing, say_no_file, say_patching, say_unfit};
 pub enum Decision {
     /// All its hunks are ignored.
     Skip(Row),
+    /// Something that no told tree has is in the way: its hunks are ignored, and go to the reject file.
+    Refuse { place: u32, side: Side },
     /// Its hunks are tried on the chosen file from this side.
     Try { place: u32, side: Side },
 }
@@ -174,7 +176,7 @@ fn on_meant<P: Plan, T: Tree, O: Sink>(
     }
 }
 
-/// Where something is in the way, nothing is done; `link` says whether it is about a symbolic link.
+/// Where something is in the way, it is refused; `link` says whether it is about a symbolic link.
 fn on_way<P: Plan, T: Tree, O: Sink>(
     task: &Task<'_>,
     place: u32,
@@ -193,7 +195,7 @@ fn on_way<P: Plan, T: Tree, O: Sink>(
     ensures rest { O.same_rest out.old out.new }
     ensures within { IfOk result (IsWithin (length task.now.patch.now.targets.items)) }
 {
-    match obstacle(task, place, link, tree) {
+    match obstacle(task, place, there, link, tree) {
         Ok(None) => on_free(task, place, there, link, plan, tree, out),
         Ok(Some(barrier)) => on_barred(task, place, barrier, out),
         Err(_) => Err(RunFault::Tree),

@@ -45,9 +45,17 @@ acts_deleted side p = is_said_absent (other_side side) p.header.action
 abbrev pub other_place : ℕ → ℕ
 other_place k = if k == 0 then 1 else 0
 
--- the place of the name that is written, where this one was chosen: of a file that is renamed or copied the other one
-abbrev pub written_place : PlainPatch → ℕ → ℕ
-written_place p k = if moves p then other_place k else k
+-- of the two names of a file that is renamed or copied the place of the one that it has before, as the file patches are taken
+abbrev pub source_at : Bool → ℕ
+source_at reverse = if reverse then 1 else 0
+
+-- its file gets its other name, where this one was chosen: the one that it has before; with the other one chosen the file has that already, since a rename was done before, and so a file patch changes it as any other
+abbrev pub moves_at : Bool → PlainPatch → ℕ → Bool
+moves_at reverse p k = moves p && k == source_at reverse
+
+-- the place of the name that is written, where this one was chosen: the other one, if its file gets that
+abbrev pub written_place : Bool → PlainPatch → ℕ → ℕ
+written_place reverse p k = if moves_at reverse p k then other_place k else k
 
 -- a file patch can take its file away, but not with `--posix`, nor with `-D`
 abbrev pub takes_files : PlainOptions → Bool

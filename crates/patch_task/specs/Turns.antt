@@ -9,7 +9,7 @@ use Rattle.file_patch.specs.declared.derived.Target.{Target}
 use Rattle.file_patch.specs.PlainPatch.{PlainPatch, hunk_count}
 use Rattle.patch_set.specs.declared.set.Row.{Row}
 use Rattle.patch_set.specs.declared.skipped.BinaryChange.{BinaryChange}
-use Rattle.patch_task.specs.Asking.{renames, written_place}
+use Rattle.patch_task.specs.Asking.{renames, source_at, written_place}
 
 -- a file patch, the files that it can be meant for, the binary changes of its text that are passed over, and of each file patch of its text that renames or copies a file the two names
 pub record Item : Type 0 where
@@ -18,7 +18,7 @@ pub record Item : Type 0 where
   pub skipped : List BinaryChange
   pub moved : List (List Target)
 
--- what later file patches ask of one: the name that it made or took away as its target, the one that it took away from a file that it renamed, and its reject text with the name of that file
+-- what later file patches ask of one: the name that it made or took away as its target, of a rename the one that it read, and its reject text with the name of that file
 pub record Mark : Type 0 where
   pub written : Option (List ℕ)
   pub renamed : Option (List ℕ)
@@ -38,18 +38,18 @@ abbrev pub target_at : List Target → ℕ → Target
 target_at targets k = slice_index_or targets k no_target
 
 -- the target that is written, where this one was chosen
-abbrev pub written_at : Item → ℕ → Option Target
-written_at i place = option_or (slice_get i.targets (written_place i.patch place)) (slice_get i.targets place)
+abbrev pub written_at : Bool → Item → ℕ → Option Target
+written_at reverse i place = option_or (slice_get i.targets (written_place reverse i.patch place)) (slice_get i.targets place)
 
--- the target that is written: the output, or the chosen one, or the other one of a file that is renamed or copied
+-- the target that is written: the output, or the chosen one, or the other one of a file that gets that name
 abbrev pub written : PlainTurn → ℕ → Target
-written t place = unwrap_or t.output (unwrap_or (written_at t.item place) (target_at t.item.targets place))
+written t place = unwrap_or t.output (unwrap_or (written_at t.options.reverse t.item place) (target_at t.item.targets place))
 
 -- the same of a file patch whose turn was before, which may have chosen none
 abbrev pub written_by : PlainTurn → Row → Option Target
-written_by t r = option_or t.output (option_and_then (written_at t.item) r.target)
+written_by t r = option_or t.output (option_and_then (written_at t.options.reverse t.item) r.target)
 
--- the target whose file such a file patch renamed
+-- of a rename the target that it read
 abbrev pub renamed_by : PlainTurn → Row → Option Target
 renamed_by t r = if renames t.item.patch then option_and_then (slice_get t.item.targets) r.target else None
 
@@ -66,10 +66,6 @@ shown_reject t = drop t.reject_shown_from t.reject
 
 abbrev pub total : PlainTurn → ℕ
 total t = hunk_count t.item.patch.change
-
--- of the two names of a file that is renamed or copied the place of the one that it has before, as the file patches are taken
-abbrev pub source_at : Bool → ℕ
-source_at reverse = if reverse then 1 else 0
 
 abbrev pub has_at : ℕ → List ℕ → List Target → Bool
 has_at place name targets = option_map_or (λ w. bytes_eq name w.name) (slice_get targets place) false

@@ -4,7 +4,7 @@ ghost use Rattle.std.specs.Prelude.{◌≡◌, ◌<◌, ◌^◌, ℕ, List};
 ghost use Rattle.file_patch.specs.Absent.{is_said_absent};
 ghost use Rattle.file_patch.specs.PlainPatch.{patch_of, row_count};
 ghost use Rattle.patch_options.specs.PlainJob.{plain_options};
-ghost use Rattle.patch_task.specs.Asking.{is_rename, renames, is_bare, acts_new, acts_deleted, other_place, written_place, takes_files};
+ghost use Rattle.patch_task.specs.Asking.{is_rename, renames, is_bare, acts_new, acts_deleted, other_place, source_at, moves_at, written_place, takes_files};
 
 use file_patch::FilePatch;
 use header_record::Action;
@@ -59,11 +59,25 @@ fn is_said_absent(side: Side, action: Action) -> bool
     }
 }
 
-/// The place of the target that is written, where this one was chosen.
-pub fn written_place(patch: &FilePatch, place: u32) -> u32
-    ensures { (text : List ℕ) → result ≡ written_place (patch_of text patch.now) place }
+/// The place of the name that a file has before it is renamed or copied.
+pub fn source_at(reverse: bool) -> u32
+    ensures { result ≡ source_at reverse }
 {
-    if patch.is_moved() {
+    if reverse { 1 } else { 0 }
+}
+
+/// Whether its file gets its other name, where this target was chosen. A file that is found under the other one has it already.
+pub fn moves_at(patch: &FilePatch, reverse: bool, place: u32) -> bool
+    ensures { (text : List ℕ) → result ≡ moves_at reverse (patch_of text patch.now) place }
+{
+    patch.is_moved() && place == source_at(reverse)
+}
+
+/// The place of the target that is written, where this one was chosen.
+pub fn written_place(patch: &FilePatch, reverse: bool, place: u32) -> u32
+    ensures { (text : List ℕ) → result ≡ written_place reverse (patch_of text patch.now) place }
+{
+    if moves_at(patch, reverse, place) {
         other_place(place)
     } else {
         place

@@ -12,7 +12,7 @@ mod sources;
 mod task;
 mod times;
 
-pub use asking::{acts_deleted, acts_new, is_bare, renames, takes_files};
+pub use asking::{acts_deleted, acts_new, is_bare, moves_at, renames, source_at, takes_files};
 pub use fault::RunFault;
 pub use kinds::{Manner, Mode, Subject, is_link, mode_asked, subject_of};
 pub use moved::write_moved;

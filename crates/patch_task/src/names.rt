@@ -57,18 +57,18 @@ pub fn target_in<'a>(patch: &'a FilePatch, place: u32) -> Option<&'a Target>
 }
 
 /// The target that a file patch writes without an output of the options, where this one was chosen.
-pub fn written_at<'a>(patch: &'a FilePatch, place: u32) -> Option<&'a Target>
-    ensures target { (text : List ℕ) (skipped : List BinaryChange) (moved : List (List ThisTarget)) → option_copied result ≡ written_at (item_of text skipped moved patch.now) place }
+pub fn written_at<'a>(patch: &'a FilePatch, reverse: bool, place: u32) -> Option<&'a Target>
+    ensures target { (text : List ℕ) (skipped : List BinaryChange) (moved : List (List ThisTarget)) → option_copied result ≡ written_at reverse (item_of text skipped moved patch.now) place }
     ensures named { All IsNamed patch.now.targets.items → ForSome (option_copied result) IsNamed }
 {
-    match target_in(patch, written_place(patch, place)) {
+    match target_in(patch, written_place(patch, reverse, place)) {
         Some(target) => Some(target),
         None => target_in(patch, place),
     }
 }
 
-/// The target that is written: the output of the options, or the one that is read, or the other one where its file is
-/// renamed or copied.
+/// The target that is written: the output of the options, or the one that is read, or the other one where its file gets
+/// that name.
 pub fn written<'a>(task: &Task<'a>, place: u32) -> &'a Target
     requires task { IsTask task.now }
     requires within { place < length task.now.patch.now.targets.items }
@@ -85,10 +85,10 @@ pub fn written<'a>(task: &Task<'a>, place: u32) -> &'a Target
 fn own_written<'a>(task: &Task<'a>, place: u32) -> &'a Target
     requires task { IsTask task.now }
     requires within { place < length task.now.patch.now.targets.items }
-    ensures target { result.now ≡ unwrap_or (written_at (plain_task task.now).item place) (target_at (plain_task task.now).item.targets place) }
+    ensures target { result.now ≡ unwrap_or (written_at (plain_task task.now).options.reverse (plain_task task.now).item place) (target_at (plain_task task.now).item.targets place) }
     ensures named { IsNamed result.now }
 {
-    match written_at(task.patch, place) {
+    match written_at(task.patch, task.options.reverse, place) {
         Some(target) => target,
         None => chosen(task, place),
     }

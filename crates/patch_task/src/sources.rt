@@ -1,31 +1,23 @@
 //! Which files a file patch of the text renames or copies.
 
 ghost use Rattle.std.specs.Prelude.{◌≡◌, ℕ, bytes_eq};
-ghost use Rattle.patch_options.specs.PlainJob.{plain_options};
-ghost use Rattle.patch_task.specs.Turns.{source_at, has_at, is_source};
+ghost use Rattle.patch_task.specs.Turns.{has_at, is_source};
 ghost use Rattle.patch_task.specs.Ready.{moved_of};
 ghost use Rattle.patch_task.specs.TaskView.{plain_task};
 
+use crate::asking::source_at;
 use crate::names::target_in;
 use crate::task::Task;
 use file_patch::FilePatch;
 use outside::Name;
-use patch_options::Options;
 
 /// Whether a file patch of the text renames or copies the file of this name.
 pub fn is_source(task: &Task<'_>, name: &Name) -> bool
     ensures { result ≡ is_source (plain_task task.now) name.now }
 {
-    let place = source_at(task.options);
+    let place = source_at(task.options.reverse);
     let patches = task.set.patches();
     patches.iter().any(|patch| moves_from(patch, place, name))
-}
-
-/// The place of the name that a file has before it is renamed or copied.
-fn source_at(options: &Options) -> u32
-    ensures { result ≡ source_at (plain_options options.now).reverse }
-{
-    if options.reverse { 1 } else { 0 }
 }
 
 /// Whether it renames or copies a file, and this is the name at that place.

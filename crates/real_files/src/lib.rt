@@ -1,6 +1,7 @@
 //! The files of a run on the real disk: what stands at a name, what is open, and whose rights each new file gets.
 #![tactic(auto)]
 
+mod asked;
 mod changing;
 mod dated;
 mod directories;

@@ -126,6 +126,10 @@ is_not false = codes " is not a regular file -- refusing to patch\n"
 abbrev pub barred_line : Bool → List ℕ → List ℕ
 barred_line is_link name = codes "File " ++ (name ++ is_not is_link)
 
+-- the file may not be written to, and the options ask to leave it then
+abbrev pub read_only_line : List ℕ → List ℕ
+read_only_line name = codes "File " ++ (name ++ codes " is read-only; refusing to patch\n")
+
 -- a file would become a symbolic link, or a link a file; types are told as modes of the system
 abbrev pub type_change : Bool → List ℕ
 type_change true = codes ": can't change file type from 0100000 to 0120000.\n"
@@ -154,3 +158,8 @@ failures_line failed hunks (Some reject) = share failed hunks ++ (codes " FAILED
 -- all hunks of a patch that was skipped
 abbrev pub ignored_line : ℕ → List ℕ
 ignored_line hunks = share hunks hunks ++ codes " ignored\n"
+
+-- all hunks of a patch that was refused, and where their rejects go, if they are written
+abbrev pub refused_line : ℕ → Option (List ℕ) → List ℕ
+refused_line hunks None = ignored_line hunks
+refused_line hunks (Some reject) = share hunks hunks ++ (codes " ignored -- saving rejects to file " ++ (reject ++ codes "\n"))

@@ -4,7 +4,7 @@ ghost use Rattle.std.specs.Prelude.{◌≡◌, ◌++◌, codes, true, false};
 ghost use Rattle.outside.specs.SinkView.{Writes};
 ghost use Rattle.patch_options.specs.PlainJob.{plain_options};
 ghost use Rattle.say_text.specs.Origins.{plain_origin};
-ghost use Rattle.say_text.specs.Messages.{silenced, doing, behind_name, patching_line, no_file_lines, prereq_line, reaction, reversed_line, would_do, stands_so, unfit_line, not_deleting_line, is_not, barred_line, type_change, type_line, submodule_line};
+ghost use Rattle.say_text.specs.Messages.{silenced, doing, behind_name, patching_line, no_file_lines, prereq_line, reaction, reversed_line, would_do, stands_so, unfit_line, not_deleting_line, is_not, barred_line, read_only_line, type_change, type_line, submodule_line};
 
 use crate::lines::no_file_lines;
 use crate::origin::Origin;
@@ -253,7 +253,7 @@ pub fn say_not_deleting<O: Sink>(_options: &Options, name: &str, out: &mut O) ->
     )
 }
 
-/// Says that a file patch is skipped, since no file can be put at this name, or no symbolic link. With `-s` too.
+/// Says that a file patch is refused, since no file can be put at this name, or no symbolic link. With `-s` too.
 pub fn say_barred<O: Sink>(is_link: bool, name: &str, out: &mut O) -> Result<(), Failed>
     ensures writes { Writes (O.view out.old) (O.view out.new) result (barred_line is_link name.now) }
     ensures rest { O.same_rest out.old out.new }
@@ -269,6 +269,19 @@ fn is_not(is_link: bool) -> &'static [u8]
     } else {
         b" is not a regular file -- refusing to patch\n"
     }
+}
+
+/// Says that a file patch is refused, since its file may not be written to. With `-s` too.
+pub fn say_read_only<O: Sink>(name: &str, out: &mut O) -> Result<(), Failed>
+    ensures writes { Writes (O.view out.old) (O.view out.new) result (read_only_line name.now) }
+    ensures rest { O.same_rest out.old out.new }
+{
+    put_around(
+        out,
+        b"File ",
+        name.as_bytes(),
+        b" is read-only; refusing to patch\n",
+    )
 }
 
 /// Says that a file patch is skipped, since it would make a symbolic link of a file, or a file of a link. With `-s` too.

@@ -4,7 +4,7 @@ ghost use Rattle.std.specs.Prelude.{◌≡◌, ◌&&◌, not, Some};
 ghost use Rattle.std.specs.Option.{option_copied};
 ghost use Rattle.outside.specs.SinkView.{Writes};
 ghost use Rattle.patch_options.specs.PlainJob.{plain_options};
-ghost use Rattle.say_text.specs.Messages.{silenced, is_told, placed_text, failed_line, failures_line, ignored_line};
+ghost use Rattle.say_text.specs.Messages.{silenced, is_told, placed_text, failed_line, failures_line, ignored_line, refused_line};
 
 use crate::lines::{failed_line, placed_line, share_line};
 use crate::pieces::put_around;
@@ -94,4 +94,28 @@ pub fn say_ignored<O: Sink>(_options: &Options, hunks: u32, out: &mut O) -> Resu
 {
     let line = share_line(hunks, hunks, b" ignored\n");
     put_all(out, line.as_slice())
+}
+
+/// Says that all hunks of a file patch that is refused were ignored, and where their rejects go, if they are written. With `-s` too.
+pub fn say_refused<O: Sink>(
+    options: &Options,
+    hunks: u32,
+    reject: Option<&str>,
+    out: &mut O,
+) -> Result<(), Failed>
+    ensures writes { Writes (O.view out.old) (O.view out.new) result (refused_line hunks (option_copied reject.entry)) }
+    ensures rest { O.same_rest out.old out.new }
+{
+    match reject {
+        None => say_ignored(options, hunks, out),
+        Some(name) => put_refused_line(hunks, name.as_bytes(), out),
+    }
+}
+
+fn put_refused_line<O: Sink>(hunks: u32, reject: &[u8], out: &mut O) -> Result<(), Failed>
+    ensures writes { Writes (O.view out.old) (O.view out.new) result (refused_line hunks (Some reject.now)) }
+    ensures rest { O.same_rest out.old out.new }
+{
+    let line = share_line(hunks, hunks, b" ignored -- saving rejects to file ");
+    put_around(out, line.as_slice(), reject, b"\n")
 }

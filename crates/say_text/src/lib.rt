@@ -12,10 +12,10 @@ mod skipping;
 mod standing;
 
 pub use files::{
-    say_barred, say_no_file, say_not_deleting, say_patching, say_prereq, say_reversed,
-    say_submodule, say_type_change, say_unfit,
+    say_barred, say_no_file, say_not_deleting, say_patching, say_prereq, say_read_only,
+    say_reversed, say_submodule, say_type_change, say_unfit,
 };
-pub use hunks::{say_failed, say_failures, say_ignored, say_placed};
+pub use hunks::{say_failed, say_failures, say_ignored, say_placed, say_refused};
 pub use origin::Origin;
 pub use skipping::{say_image, say_skipped};
 pub use standing::Standing;

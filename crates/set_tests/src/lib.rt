@@ -6,4 +6,6 @@ mod clean;
 #[cfg(test)]
 mod names;
 #[cfg(test)]
+mod numbers;
+#[cfg(test)]
 mod sets;

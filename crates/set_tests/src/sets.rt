@@ -90,7 +90,7 @@ fn has_outline(alloc: Global, options: &Options) -> bool
 }
 
 /// What `patch` alone asks for.
-fn plain() -> Options
+pub fn plain() -> Options
     ensures { IsLawful (plain_options result) }
 {
     Options {

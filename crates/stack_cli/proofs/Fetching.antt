@@ -28,6 +28,7 @@ use Rattle.run_answers.specs.declared.fault.InputFault.TheVariants as input
 use Rattle.run_answers.specs.Input.{answer_of}
 use Rattle.patch_run.specs.Run.{Run, set_run}
 use Rattle.patch_run.specs.Finishes.{CanApply}
+use Rattle.patch_run.proofs.Ready.{read_names}
 use Rattle.series_stack.specs.Series.{is_feed, is_lawful, named_lines, series_of}
 use Rattle.series_stack.specs.Stack.{patch_name}
 use Rattle.series_stack.specs.Commands.{IsPatch, names_of, own_line}
@@ -91,7 +92,7 @@ file_is s name file is named same f told =
 
 -- ---- the set is the next patch
 can-apply : (given : List ℕ) (v : SetView) → IsRead push_options given v → IsFresh v → CanApply push_options v
-can-apply given v read fresh = record { lawful = options_lawful; read = (given, read); verdicts = ap length fresh.verdicts ∙ length-replicate (hunks_in v.patches) Untried }
+can-apply given v read fresh = record { lawful = options_lawful; names = read_names push_options given v read; verdicts = ap length fresh.verdicts ∙ length-replicate (hunks_in v.patches) Untried }
 
 stop-is : (given : List ℕ) (v : SetView) → IsRead push_options (clean_of push_options given) v → (g : Files) → stop_in (Some given) g ≡ (set_run push_options v g).stop
 stop-is given v read g =

@@ -113,12 +113,12 @@ module _ (Q : List ℕ → Type 0) where
         here None is = open_at t.options t.item.targets k each less
         here (Some w) is = open_get t.options t.item.targets k w each is
 
-        chosen : (o : Option Target) → slice_get t.item.targets (written_place t.item.patch k) ≡ o → IsOpen t.options (unwrap_or (option_or o (slice_get t.item.targets k)) (target_at t.item.targets k))
+        chosen : (o : Option Target) → slice_get t.item.targets (written_place t.options.reverse t.item.patch k) ≡ o → IsOpen t.options (unwrap_or (option_or o (slice_get t.item.targets k)) (target_at t.item.targets k))
         chosen None is = here (slice_get t.item.targets k) refl
-        chosen (Some w) is = open_get t.options t.item.targets (written_place t.item.patch k) w each is
+        chosen (Some w) is = open_get t.options t.item.targets (written_place t.options.reverse t.item.patch k) w each is
 
-        by : (o : Option Target) → t.output ≡ o → IsOpen t.options (unwrap_or o (unwrap_or (written_at t.item k) (target_at t.item.targets k)))
-        by None is = chosen (slice_get t.item.targets (written_place t.item.patch k)) refl
+        by : (o : Option Target) → t.output ≡ o → IsOpen t.options (unwrap_or o (unwrap_or (written_at t.options.reverse t.item k) (target_at t.item.targets k)))
+        by None is = chosen (slice_get t.item.targets (written_place t.options.reverse t.item.patch k)) refl
         by (Some w) is = outs w is
 
     start_only : (f : Files) (s : Start) → IsTriedWithin (length t.item.targets) s → Only (effects_in (ending_of t f s))

@@ -7,6 +7,7 @@ use Rattle.num_text.specs.Numbers.{is_digit, AllDigits}
 use Rattle.stamp.specs.Forms.{IsFraction, worth, nanoseconds_of}
 use Rattle.stamp.specs.Reading.{digit_at, worth_in, nanoseconds_in}
 use Rattle.stamp.proofs.Digits.{piece, digit-some}
+use Rattle.stamp.proofs.Parts.{Ends}
 
 pub digit-within : (text : List ℕ) (at d : ℕ) → digit_at text at ≡ Some d → at < length text
 digit-within text at d e = omega (arith, ap length (piece text at (48 + d) (digit-some text at d e).1 (omega arith)), length-drop at text)
@@ -47,17 +48,21 @@ worth-room value unit d lt less room =
     let m : d * unit ≤ 9 * unit = at-most d unit lt in
     (omega (arith, m, less, room), omega (arith, m, less, room))
 
-digits-read : (unit : ℕ) (digits more : List ℕ) → AllDigits digits → worth_in unit (digits ++ 32 ∷ more) ≡ worth unit digits
+digits-read : (unit : ℕ) (digits more : List ℕ) → AllDigits digits → Ends more → worth_in unit (digits ++ more) ≡ worth unit digits
 unfolding worth_in worth
-digits-read unit [] more all = refl
-digits-read unit (d ∷ ds) more all =
+digits-read unit [] more all ends = no-digit unit more ends.no_digit
+digits-read unit (d ∷ ds) more all ends =
     let is : is_digit d ≡ true = all.0 in
-    rw is (ap (λ n. (d - 48) * unit + n) (digits-read (unit / 10) ds more all.1))
+    rw is (ap (λ n. (d - 48) * unit + n) (digits-read (unit / 10) ds more all.1 ends))
 
-pub nanoseconds-read : (bytes more : List ℕ) → IsFraction bytes → nanoseconds_in (bytes ++ 32 ∷ more) ≡ nanoseconds_of bytes
+no-fraction : (more : List ℕ) → Ends more → nanoseconds_in more ≡ 0
 unfolding nanoseconds_in
-nanoseconds-read bytes more (inl e) = rw e refl
-nanoseconds-read bytes more (inr (digits, e, some, all)) = rw e (digits-read 100_000_000 digits more all)
+no-fraction more ends = rw ends.no_dot refl
+
+pub nanoseconds-read : (bytes more : List ℕ) → IsFraction bytes → Ends more → nanoseconds_in (bytes ++ more) ≡ nanoseconds_of bytes
+unfolding nanoseconds_in
+nanoseconds-read bytes more (inl e) ends = rw e (no-fraction more ends)
+nanoseconds-read bytes more (inr (digits, e, some, all)) ends = rw e (digits-read 100_000_000 digits more all ends)
 
 pub sum-on : (value all first rest : ℕ) → all ≡ first + rest → value + first + rest ≡ value + all
 sum-on value all first rest e = omega (arith, e)

@@ -1,14 +1,14 @@
 -- The day, the clock, the fraction and the zone of a stamp.
-use Rattle.std.proofs.Common.{◌≡◌, ℕ, ◌+◌, ◌-◌, ◌*◌, ◌/◌, ◌%◌, ◌<◌, ◌≤◌, Bool, true, false, cond, eqb, leb, ◌&&◌, ◌||◌, List, [], ◌∷◌, ◌++◌, length, get_or, drop, None, Some, refl, sym, ap, ◌∙◌, arith, inl, inr, length-drop}
-use Rattle.std.specs.Prelude.{ℤ, pos, neg_ℤ}
+use Rattle.std.proofs.Common.{◌≡◌, ℕ, ◌+◌, ◌-◌, ◌*◌, ◌/◌, ◌%◌, ◌<◌, ◌≤◌, Bool, true, false, cond, eqb, leb, ◌&&◌, ◌||◌, List, [], ◌∷◌, ◌++◌, length, get_or, drop, Option, None, Some, refl, sym, ap, ◌∙◌, arith, inl, inr, length-drop}
+use Rattle.std.specs.Prelude.{ℤ, pos, neg_ℤ, IfSome, is_none}
 use Rattle.std.proofs.lemmas.List.{get_or-drop, drop-drop}
 use Rattle.std.proofs.lemmas.Bool.{and_right, and_parts, and_from, leb-true, le-leb, eqb-true, eq-eqb}
 use Rattle.std.proofs.lemmas.Option.{option_and_then_some}
 use Rattle.jiff_core.specs.Calendar.{is_leap_year, days_from_civil}
 use Rattle.num_text.specs.Numbers.{is_digit, after_digits, AllDigits}
 use Rattle.num_text.proofs.NumberLemmas.{rest-step}
-use Rattle.stamp.specs.Forms.{two, four, IsDay, IsTime, time_text, Offset, offset_text, offset_seconds, IsFraction}
-use Rattle.stamp.specs.Reading.{two_at, four_at, stands, is_day, day_number, clock_of, zone_of, after_fraction, numeric_day}
+use Rattle.stamp.specs.Forms.{two, four, IsDay, IsTime, time_text, Offset, offset_text, offset_seconds, IsOffset, zone_text, zone_seconds, IsFraction}
+use Rattle.stamp.specs.Reading.{two_at, four_at, stands, is_day, day_number, clock_of, offset_of, zone_of, after_fraction, numeric_day}
 use Rattle.stamp.proofs.OptionLemmas.{if-some, if-other}
 use Rattle.stamp.proofs.Digits.{byte-piece, piece, two-piece, two-read, four-piece, four-read}
 
@@ -164,23 +164,23 @@ numeric_day-read text year month day is y1 y2 y3 y4 a m1 m2 b d1 d2 c =
 
 -- ---- the zone
 
-pub record Zone (rest : List ℕ) (z : ℤ) : Type 0 where
+pub record Shift (rest : List ℕ) (z : ℤ) : Type 0 where
   pub offset : Offset
-  pub is_offset : (offset.hours ≤ 23) × (offset.minutes ≤ 59)
+  pub is_offset : IsOffset offset
   pub value : offset_seconds offset ≡ z
   pub spelled : rest ≡ 32 ∷ offset_text offset
 
-nothing : (rest : List ℕ) → length rest ≡ 6 → drop 6 rest ≡ []
-nothing rest e = none (drop 6 rest) (omega (arith, length-drop 6 rest))
-  where
-    none : (xs : List ℕ) → length xs ≡ 0 → xs ≡ []
-    none [] e = refl
-    none (x ∷ xs) e = absurd (omega arith)
+empty : (xs : List ℕ) → length xs ≡ 0 → xs ≡ []
+empty [] e = refl
+empty (x ∷ xs) e = absurd (omega arith)
 
-zone-by : (rest : List ℕ) (z : ℤ) (hours minutes : ℕ) → two_at rest 2 ≡ Some hours → two_at rest 4 ≡ Some minutes → length rest ≡ 6 → stands rest 0 32 ≡ true → hours ≤ 23 → minutes ≤ 59
+nothing : (rest : List ℕ) → length rest ≡ 6 → drop 6 rest ≡ []
+nothing rest e = empty (drop 6 rest) (omega (arith, length-drop 6 rest))
+
+offset-by : (rest : List ℕ) (z : ℤ) (hours minutes : ℕ) → two_at rest 2 ≡ Some hours → two_at rest 4 ≡ Some minutes → length rest ≡ 6 → stands rest 0 32 ≡ true → hours ≤ 23 → minutes ≤ 59
     → (east west : Bool) → stands rest 1 43 ≡ east → stands rest 1 45 ≡ west
-    → cond east (Some (pos (hours * 3600 + minutes * 60))) (cond west (Some (neg_ℤ (pos (hours * 3600 + minutes * 60)))) None) ≡ Some z → Zone rest z
-zone-by rest z hours minutes h m long space hl ml east west es ws e =
+    → cond east (Some (pos (hours * 3600 + minutes * 60))) (cond west (Some (neg_ℤ (pos (hours * 3600 + minutes * 60)))) None) ≡ Some z → Shift rest z
+offset-by rest z hours minutes h m long space hl ml east west es ws e =
     by east west es ws e
   where
     tail : (sign : ℕ) → stands rest 1 sign ≡ true → 0 < sign → rest ≡ 32 ∷ sign ∷ (two hours ++ two minutes)
@@ -189,42 +189,78 @@ zone-by rest z hours minutes h m long space hl ml east west es ws e =
         ∙ ap (λ r. sign ∷ r) (two-piece rest 2 hours h ∙ ap (λ r. two hours ++ r) (two-piece rest 4 minutes m ∙ ap (λ r. two minutes ++ r) (nothing rest long))))
 
     by : (east west : Bool) → stands rest 1 43 ≡ east → stands rest 1 45 ≡ west
-        → cond east (Some (pos (hours * 3600 + minutes * 60))) (cond west (Some (neg_ℤ (pos (hours * 3600 + minutes * 60)))) None) ≡ Some z → Zone rest z
+        → cond east (Some (pos (hours * 3600 + minutes * 60))) (cond west (Some (neg_ℤ (pos (hours * 3600 + minutes * 60)))) None) ≡ Some z → Shift rest z
     by true west es ws e = record { offset = record { is_east = true; hours = hours; minutes = minutes }; is_offset = (hl, ml); value = cc; spelled = tail 43 es (omega arith) }
     by false true es ws e = record { offset = record { is_east = false; hours = hours; minutes = minutes }; is_offset = (hl, ml); value = cc; spelled = tail 45 ws (omega arith) }
     by false false es ws e = absurd cc
 
-pub zone-some : (rest : List ℕ) (z : ℤ) → zone_of rest ≡ Some z → Zone rest z
-unfolding zone_of
-zone-some rest z e =
+offset-some : (rest : List ℕ) (z : ℤ) → offset_of rest ≡ Some z → Shift rest z
+unfolding offset_of
+offset-some rest z e =
     option_and_then_some _ (two_at rest 2) z e (λ hours h more.
     option_and_then_some _ (two_at rest 4) z more (λ minutes m last.
     let found = if-other (eqb (length rest) 6 && stands rest 0 32 && leb hours 23 && leb minutes 59) _ z last in
     let a = and_parts _ _ found.0 in
     let b = and_parts _ _ a.0 in
     let c = and_parts _ _ b.0 in
-    zone-by rest z hours minutes h m (eqb-true _ _ c.0) c.1 (leb-true _ _ b.1) (leb-true _ _ a.1) (stands rest 1 43) (stands rest 1 45) refl refl found.1))
+    offset-by rest z hours minutes h m (eqb-true _ _ c.0) c.1 (leb-true _ _ b.1) (leb-true _ _ a.1) (stands rest 1 43) (stands rest 1 45) refl refl found.1))
 
-pub zone-east : (rest : List ℕ) (hours minutes : ℕ) → two_at rest 2 ≡ Some hours → two_at rest 4 ≡ Some minutes → length rest ≡ 6 → stands rest 0 32 ≡ true → hours ≤ 23 → minutes ≤ 59
-    → get_or rest 1 0 ≡ 43 → zone_of rest ≡ Some (pos (hours * 3600 + minutes * 60))
-unfolding zone_of
-zone-east rest hours minutes h m long space hl ml is =
+pub offset-east : (rest : List ℕ) (hours minutes : ℕ) → two_at rest 2 ≡ Some hours → two_at rest 4 ≡ Some minutes → length rest ≡ 6 → stands rest 0 32 ≡ true → hours ≤ 23 → minutes ≤ 59
+    → get_or rest 1 0 ≡ 43 → offset_of rest ≡ Some (pos (hours * 3600 + minutes * 60))
+unfolding offset_of
+offset-east rest hours minutes h m long space hl ml is =
     let test : (eqb (length rest) 6 && stands rest 0 32 && leb hours 23 && leb minutes 59) ≡ true = and_from _ _ (and_from _ _ (and_from _ _ (eq-eqb _ _ long) space) (le-leb _ _ hl)) (le-leb _ _ ml) in
     rw (h, m, test, eq-eqb _ _ is) refl
 
-zone-read-by : (east : Bool) (hours minutes : ℕ) → hours ≤ 23 → minutes ≤ 59 → zone_of (32 ∷ offset_text (record { is_east = east; hours = hours; minutes = minutes })) ≡ Some (offset_seconds (record { is_east = east; hours = hours; minutes = minutes }))
-unfolding zone_of
-zone-read-by true hours minutes h m =
+offset-read-by : (east : Bool) (hours minutes : ℕ) → hours ≤ 23 → minutes ≤ 59 → offset_of (32 ∷ offset_text (record { is_east = east; hours = hours; minutes = minutes })) ≡ Some (offset_seconds (record { is_east = east; hours = hours; minutes = minutes }))
+unfolding offset_of
+offset-read-by true hours minutes h m =
     let rest : List ℕ = 32 ∷ 43 ∷ (two hours ++ two minutes) in
     let test : (eqb (length rest) 6 && stands rest 0 32 && leb hours 23 && leb minutes 59) ≡ true = and_from _ _ (and_from _ _ refl (le-leb _ _ h)) (le-leb _ _ m) in
     rw (two-read rest 2 hours refl refl (omega arith), two-read rest 4 minutes refl refl (omega arith), test) refl
-zone-read-by false hours minutes h m =
+offset-read-by false hours minutes h m =
     let rest : List ℕ = 32 ∷ 45 ∷ (two hours ++ two minutes) in
     let test : (eqb (length rest) 6 && stands rest 0 32 && leb hours 23 && leb minutes 59) ≡ true = and_from _ _ (and_from _ _ refl (le-leb _ _ h)) (le-leb _ _ m) in
     rw (two-read rest 2 hours refl refl (omega arith), two-read rest 4 minutes refl refl (omega arith), test) refl
 
-pub zone-read : (o : Offset) → (o.hours ≤ 23) × (o.minutes ≤ 59) → zone_of (32 ∷ offset_text o) ≡ Some (offset_seconds o)
-zone-read o h = zone-read-by o.is_east o.hours o.minutes h.0 h.1
+offset-read : (o : Offset) → IsOffset o → offset_of (32 ∷ offset_text o) ≡ Some (offset_seconds o)
+offset-read o h = offset-read-by o.is_east o.hours o.minutes h.0 h.1
+
+-- an offset, or nothing
+pub record Zone (rest : List ℕ) (z : ℤ) : Type 0 where
+  pub offset : Option Offset
+  pub is_offset : IfSome offset IsOffset
+  pub value : zone_seconds offset ≡ z
+  pub spelled : rest ≡ zone_text offset
+  pub none : eqb (length rest) 0 ≡ is_none offset
+
+pub zone-some : (rest : List ℕ) (z : ℤ) → zone_of rest ≡ Some z → Zone rest z
+unfolding zone_of
+zone-some rest z e = by (eqb (length rest) 0) refl e
+  where
+    by : (v : Bool) → eqb (length rest) 0 ≡ v → cond v (Some (pos 0)) (offset_of rest) ≡ Some z → Zone rest z
+    by true is e = record { offset = None; is_offset = tt; value = cc; spelled = empty rest (eqb-true _ _ is); none = is }
+    by false is e =
+        let s = offset-some rest z e in
+        record { offset = Some s.offset; is_offset = s.is_offset; value = s.value; spelled = s.spelled; none = is }
+
+pub zone-read : (o : Option Offset) → IfSome o IsOffset → zone_of (zone_text o) ≡ Some (zone_seconds o)
+unfolding zone_of
+zone-read None h = refl
+zone-read (Some o) h = offset-read o h
+
+pub zone-none : (o : Option Offset) → eqb (length (zone_text o)) 0 ≡ is_none o
+zone-none None = refl
+zone-none (Some o) = refl
+
+-- what cannot go on a fraction
+pub record Ends (more : List ℕ) : Type 0 where
+  pub no_dot : stands more 0 46 ≡ false
+  pub no_digit : is_digit (get_or more 0 0) ≡ false
+
+pub zone-ends : (o : Option Offset) → Ends (zone_text o)
+zone-ends None = record { no_dot = refl; no_digit = refl }
+zone-ends (Some o) = record { no_dot = refl; no_digit = refl }
 
 -- ---- the fraction
 
@@ -263,25 +299,28 @@ fraction-some rest =
     let f = fraction-cases rest (stands rest 0 46 && is_digit (get_or rest 1 0)) refl in
     record { bytes = f.0; is_fraction = f.1; spelled = f.2 }
 
-digits-past : (digits more : List ℕ) → AllDigits digits → after_digits (digits ++ 32 ∷ more) ≡ 32 ∷ more
-unfolding after_digits
-digits-past [] more all = refl
-digits-past (d ∷ ds) more all = let is : is_digit d ≡ true = all.0 in rw is (digits-past ds more all.1)
-
-dot-read : (digits more : List ℕ) → 0 < length digits → AllDigits digits → after_fraction (46 ∷ (digits ++ 32 ∷ more)) ≡ 32 ∷ more
-unfolding after_fraction
-dot-read [] more some all = absurd (omega arith)
-dot-read (d ∷ ds) more some all = let is : is_digit d ≡ true = all.0 in rw is (digits-past (d ∷ ds) more all)
-
-pub fraction-read : (bytes more : List ℕ) → IsFraction bytes → after_fraction (bytes ++ 32 ∷ more) ≡ 32 ∷ more
-unfolding after_fraction
-fraction-read bytes more (inl e) = ap (λ b. after_fraction (b ++ 32 ∷ more)) e
-fraction-read bytes more (inr (digits, e, some, all)) = ap (λ b. after_fraction (b ++ 32 ∷ more)) e ∙ dot-read digits more some all
-
 after-none : (xs : List ℕ) → is_digit (get_or xs 0 0) ≡ false → after_digits xs ≡ xs
 unfolding after_digits
 after-none [] e = refl
 after-none (x ∷ xs) e = rw e refl
+
+digits-past : (digits more : List ℕ) → AllDigits digits → Ends more → after_digits (digits ++ more) ≡ more
+unfolding after_digits
+digits-past [] more all ends = after-none more ends.no_digit
+digits-past (d ∷ ds) more all ends = let is : is_digit d ≡ true = all.0 in rw is (digits-past ds more all.1 ends)
+
+dot-read : (digits more : List ℕ) → 0 < length digits → AllDigits digits → Ends more → after_fraction (46 ∷ (digits ++ more)) ≡ more
+unfolding after_fraction
+dot-read [] more some all ends = absurd (omega arith)
+dot-read (d ∷ ds) more some all ends = let is : is_digit d ≡ true = all.0 in rw is (digits-past (d ∷ ds) more all ends)
+
+no-fraction : (more : List ℕ) → Ends more → after_fraction more ≡ more
+unfolding after_fraction
+no-fraction more ends = rw ends.no_dot refl
+
+pub fraction-read : (bytes more : List ℕ) → IsFraction bytes → Ends more → after_fraction (bytes ++ more) ≡ more
+fraction-read bytes more (inl e) ends = ap (λ b. after_fraction (b ++ more)) e ∙ no-fraction more ends
+fraction-read bytes more (inr (digits, e, some, all)) ends = ap (λ b. after_fraction (b ++ more)) e ∙ dot-read digits more some all ends
 
 after-length : (xs : List ℕ) → length (after_digits xs) ≤ length xs
 unfolding after_digits

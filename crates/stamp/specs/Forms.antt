@@ -1,5 +1,5 @@
--- The two forms of a stamp in a header line, and the time of each (POSIX `patch`; GNU diffutils manual, "Unified Format" and "Context Format").
-use Rattle.std.specs.Prelude.{◌≡◌, ◌⊎◌, ℕ, ◌+◌, ◌-◌, ◌*◌, ◌/◌, ◌%◌, ◌<◌, ◌≤◌, Bool, true, false, if◌then◌else◌, List, [], ◌∷◌, ◌++◌, length, slice_index_or, ℤ, pos, neg_ℤ, ◌+ℤ◌, ◌-ℤ◌, ◌*ℤ◌, codes}
+-- The two forms of a stamp in a header line, the first with or without an offset, and the time of each (POSIX `patch`; GNU diffutils manual, "Unified Format" and "Context Format").
+use Rattle.std.specs.Prelude.{◌≡◌, ◌⊎◌, ℕ, ◌+◌, ◌-◌, ◌*◌, ◌/◌, ◌%◌, ◌<◌, ◌≤◌, Bool, true, if◌then◌else◌, List, [], ◌∷◌, ◌++◌, length, slice_index_or, Option, None, Some, IfSome, is_none, ℤ, pos, neg_ℤ, ◌+ℤ◌, ◌-ℤ◌, ◌*ℤ◌, codes}
 use Rattle.std.specs.Int.{IsInRange}
 use Rattle.jiff_core.specs.Calendar.{days_in_month, days_from_civil}
 use Rattle.num_text.specs.Numbers.{AllDigits}
@@ -59,6 +59,20 @@ offset_text o = (if o.is_east then 43 else 45) ∷ two o.hours ++ two o.minutes
 abbrev pub offset_seconds : Offset → ℤ
 offset_seconds o = if o.is_east then pos (o.hours * 3600 + o.minutes * 60) else neg_ℤ (pos (o.hours * 3600 + o.minutes * 60))
 
+-- an offset of less than a day
+abbrev pub IsOffset : Offset → Type 0
+IsOffset o = (o.hours ≤ 23) × (o.minutes ≤ 59)
+
+-- a space and the offset, or nothing where no zone is told
+abbrev pub zone_text : Option Offset → List ℕ
+zone_text None = []
+zone_text (Some o) = 32 ∷ offset_text o
+
+-- what a clock of no known zone shows stays as it is
+abbrev pub zone_seconds : Option Offset → ℤ
+zone_seconds None = pos 0
+zone_seconds (Some o) = offset_seconds o
+
 -- a fraction of a second: nothing, or a dot and digits
 abbrev pub IsFraction : List ℕ → Type 0
 IsFraction bytes = (bytes ≡ []) ⊎ ((digits : List ℕ) × (bytes ≡ 46 ∷ digits) × (0 < length digits) × AllDigits digits)
@@ -73,18 +87,18 @@ abbrev pub nanoseconds_of : List ℕ → ℕ
 nanoseconds_of [] = 0
 nanoseconds_of (point ∷ digits) = worth 100_000_000 digits
 
--- `YYYY-MM-DD HH:MM:SS`, perhaps a fraction, a space and an offset: the civil time minus the offset
+-- `YYYY-MM-DD HH:MM:SS`, perhaps a fraction, perhaps a space and an offset: the civil time minus the offset, or without one the civil time in no known zone
 pub record IsNumericStamp (text : List ℕ) (time : Time) : Type 0 where
   pub civil : Civil
   pub fraction : List ℕ
-  pub offset : Offset
+  pub offset : Option Offset
   pub is_civil : IsCivil civil
   pub is_fraction : IsFraction fraction
-  pub is_offset : (offset.hours ≤ 23) × (offset.minutes ≤ 59)
-  pub spelled : text ≡ four civil.year ++ (45 ∷ two civil.month) ++ (45 ∷ two civil.day) ++ (32 ∷ time_text civil.hour civil.minute civil.second) ++ fraction ++ (32 ∷ offset_text offset)
-  pub seconds : time.seconds ≡ seconds civil -ℤ offset_seconds offset
+  pub is_offset : IfSome offset IsOffset
+  pub spelled : text ≡ four civil.year ++ (45 ∷ two civil.month) ++ (45 ∷ two civil.day) ++ (32 ∷ time_text civil.hour civil.minute civil.second) ++ fraction ++ zone_text offset
+  pub seconds : time.seconds ≡ seconds civil -ℤ zone_seconds offset
   pub nanoseconds : time.nanoseconds ≡ nanoseconds_of fraction
-  pub in_utc : time.is_local ≡ false
+  pub in_its_zone : time.is_local ≡ is_none offset
 
 abbrev pub weekdays : List (List ℕ)
 weekdays = codes "Mon" ∷ codes "Tue" ∷ codes "Wed" ∷ codes "Thu" ∷ codes "Fri" ∷ codes "Sat" ∷ codes "Sun" ∷ []

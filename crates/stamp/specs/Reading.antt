@@ -1,5 +1,5 @@
 -- What stands at the fixed places of a stamp.
-use Rattle.std.specs.Prelude.{ℕ, ◌+◌, ◌-◌, ◌*◌, ◌/◌, Bool, true, false, nat_le, ◌&&◌, ◌==◌, if◌then◌else◌, List, [], ◌∷◌, length, drop, slice_index, slice_range, Option, None, Some, ℤ, pos, neg_ℤ, ◌+ℤ◌, ◌-ℤ◌, ◌*ℤ◌, option_map}
+use Rattle.std.specs.Prelude.{ℕ, ◌+◌, ◌-◌, ◌*◌, ◌/◌, Bool, true, nat_le, ◌&&◌, ◌==◌, if◌then◌else◌, List, [], ◌∷◌, length, drop, slice_index, slice_range, Option, None, Some, ℤ, pos, neg_ℤ, ◌+ℤ◌, ◌-ℤ◌, ◌*ℤ◌, option_map}
 use Rattle.std.specs.Option.{option_and_then, option_or}
 use Rattle.std.specs.List.{position}
 use Rattle.std.specs.Str.{bytes_eq}
@@ -43,12 +43,16 @@ numeric_day text = option_and_then (λ year. option_and_then (λ month. option_a
     (two_at text 8)) (two_at text 5)) (four_at text 0)
 
 -- ` +HHMM` or ` -HHMM`, and nothing more
-unfoldable pub zone_of : List ℕ → Option ℤ
-zone_of rest = option_and_then (λ hours. option_and_then (λ minutes.
+unfoldable pub offset_of : List ℕ → Option ℤ
+offset_of rest = option_and_then (λ hours. option_and_then (λ minutes.
     if (length rest == 6) && stands rest 0 32 && nat_le hours 23 && nat_le minutes 59
     then (if stands rest 1 43 then Some (pos (hours * 3600 + minutes * 60)) else (if stands rest 1 45 then Some (neg_ℤ (pos (hours * 3600 + minutes * 60))) else None))
     else None)
     (two_at rest 4)) (two_at rest 2)
+
+-- an offset, or nothing at all, which counts as none
+unfoldable pub zone_of : List ℕ → Option ℤ
+zone_of rest = if length rest == 0 then Some (pos 0) else offset_of rest
 
 -- what stands after a fraction at the front
 unfoldable pub after_fraction : List ℕ → List ℕ
@@ -63,9 +67,9 @@ worth_in unit (b ∷ bs) = if is_digit b then (b - 48) * unit + worth_in (unit /
 unfoldable pub nanoseconds_in : List ℕ → ℕ
 nanoseconds_in rest = if stands rest 0 46 then worth_in 100_000_000 (drop 1 rest) else 0
 
--- a time by the clock of UTC
-abbrev pub utc_time : ℤ → ℕ → Time
-utc_time seconds nanoseconds = record { seconds = seconds; nanoseconds = nanoseconds; is_local = false }
+-- a time by the clock of UTC where a zone is told behind it, else by one of no known zone
+abbrev pub time_by : List ℕ → ℤ → ℕ → Time
+time_by zone seconds nanoseconds = record { seconds = seconds; nanoseconds = nanoseconds; is_local = length zone == 0 }
 
 -- a whole second by a clock of no known zone
 abbrev pub local_time : ℤ → Time
@@ -73,7 +77,7 @@ local_time seconds = record { seconds = seconds; nanoseconds = 0; is_local = tru
 
 unfoldable pub numeric_of : List ℕ → Option Time
 numeric_of text = option_and_then (λ day. option_and_then (λ clock. option_map (λ zone.
-    utc_time (day *ℤ pos 86_400 +ℤ pos clock -ℤ zone) (nanoseconds_in (drop 19 text)))
+    time_by (after_fraction (drop 19 text)) (day *ℤ pos 86_400 +ℤ pos clock -ℤ zone) (nanoseconds_in (drop 19 text)))
     (zone_of (after_fraction (drop 19 text)))) (clock_of text)) (numeric_day text)
 
 -- the place of three letters among names, counted from 0

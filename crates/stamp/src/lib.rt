@@ -4,7 +4,7 @@
 ghost use Rattle.std.specs.Prelude.{◌≡◌, ◌↔◌, ℕ, ◌<◌, ◌≤◌, ◌+◌, length, drop, IfSome, ℤ, pos, neg_ℤ, ◌+ℤ◌, ◌*ℤ◌, option_map, slice_range};
 ghost use Rattle.jiff.specs.Words.{IsBetween};
 ghost use Rattle.stamp.specs.Forms.{IsStamp};
-ghost use Rattle.stamp.specs.Reading.{stands, digit_at, two_at, four_at, day_number, clock_of, numeric_day, zone_of, after_fraction, worth_in, nanoseconds_in, numeric_of, place_among, day_of, named_day, named_of, stamp_of};
+ghost use Rattle.stamp.specs.Reading.{stands, digit_at, two_at, four_at, day_number, clock_of, numeric_day, offset_of, zone_of, after_fraction, worth_in, nanoseconds_in, numeric_of, place_among, day_of, named_day, named_of, stamp_of};
 
 use jiff::civil::Date;
 use num_text::digits_end;
@@ -132,9 +132,9 @@ fn numeric_date(text: &[u8]) -> Option<i64>
 }
 
 // Seconds to the east of UTC.
-#[tactic(auto, unfolding(crate::specs::Reading::zone_of))]
-fn zone(rest: &[u8]) -> Option<i64>
-    ensures value { result ≡ zone_of rest.now }
+#[tactic(auto, unfolding(crate::specs::Reading::offset_of))]
+fn offset(rest: &[u8]) -> Option<i64>
+    ensures value { result ≡ offset_of rest.now }
     ensures bound { IfSome result (IsBetween (neg_ℤ (pos 86400)) (pos 86400)) }
 {
     let hours = two_digits(rest, 2)?;
@@ -148,6 +148,19 @@ fn zone(rest: &[u8]) -> Option<i64>
         }
     } else {
         None
+    }
+}
+
+// Seconds to the east of UTC, which are 0 where no zone is told.
+#[tactic(auto, unfolding(crate::specs::Reading::zone_of))]
+fn zone(rest: &[u8]) -> Option<i64>
+    ensures value { result ≡ zone_of rest.now }
+    ensures bound { IfSome result (IsBetween (neg_ℤ (pos 86400)) (pos 86400)) }
+{
+    if rest.is_empty() {
+        Some(0)
+    } else {
+        offset(rest)
     }
 }
 
@@ -203,11 +216,12 @@ fn numeric(text: &[u8]) -> Option<Time>
 {
     let day = numeric_date(text)?;
     let clock = clock(text)?;
-    let zone = zone(&text[fraction_end(text, 19)..])?;
+    let rest = &text[fraction_end(text, 19)..];
+    let zone = zone(rest)?;
     Some(Time {
         seconds: seconds_from(day, clock) - zone,
         nanoseconds: nanoseconds(text, 19),
-        is_local: false,
+        is_local: rest.is_empty(),
     })
 }
 
@@ -269,8 +283,9 @@ fn named_date(text: &[u8]) -> Option<i64>
     }
 }
 
-/// The time that a stamp says: `YYYY-MM-DD HH:MM:SS`, perhaps a fraction, and an offset as `+0100`,
-/// or `Www Mmm DD HH:MM:SS YYYY` by a clock of no known zone. The text has neither blanks around it nor a line feed.
+/// The time that a stamp says: `YYYY-MM-DD HH:MM:SS`, perhaps a fraction, and perhaps an offset as `+0100`,
+/// or `Www Mmm DD HH:MM:SS YYYY`. Without an offset it is that of a clock of no known zone, as GNU `patch` reads it.
+/// The text has neither blanks around it nor a line feed.
 pub fn read_stamp(text: &[u8]) -> Stamp
     ensures known { (t : Time) → (result ≡ Stamp.Known t) ↔ IsStamp text.now t }
     ensures unknown { (result ≡ Stamp.Unknown) ↔ ((t : Time) → ¬ IsStamp text.now t) }

@@ -11,6 +11,7 @@ use Rattle.tool_words.specs.PlainJobs.PlainToolJob.{list_job, filter_job, grep_j
 use Rattle.tool_words.specs.Ranges.{ranges_of}
 use Rattle.tool_words.specs.Selecting.{number_or_0, name_in, is_select, select_of, is_input, input_in}
 use Rattle.tool_words.specs.Showing.{is_one_given, is_shown, shown_of}
+use Rattle.tool_words.specs.Styling.{is_style, style_of}
 use Rattle.tool_words.specs.declared.jobs.Searched.{Searched}
 use Rattle.tool_words.specs.declared.jobs.Searched.TheVariants.{All, Removed, Added, Changed}
 use Rattle.tool_words.specs.declared.jobs.GrepOut.{GrepOut}
@@ -67,7 +68,7 @@ abbrev pub is_form : List ℕ → Bool
 is_form text = is_some (form_of text)
 
 abbrev pub is_filter : List Row → Bool
-is_filter rows = has_form is_form (value_of rows (codes "format")) && (are_ranges rows && is_subject rows)
+is_filter rows = has_form is_form (value_of rows (codes "format")) && (is_style rows && (are_ranges rows && is_subject rows))
 
 abbrev pub filter_of : List Row → PlainFilterJob
 filter_of rows = record {
@@ -78,6 +79,7 @@ filter_of rows = record {
   files = option_and_then ranges_of (value_of rows (codes "files"));
   format = option_and_then form_of (value_of rows (codes "format"));
   verbose = is_used rows (codes "verbose");
+  style = style_of rows;
 }
 
 -- ---- `grepdiff`

@@ -8,3 +8,4 @@ pub mod Asked
 pub mod Words
 pub mod Operands
 pub mod Calls
+pub mod Styling

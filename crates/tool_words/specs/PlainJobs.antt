@@ -12,6 +12,7 @@ use Rattle.tool_words.specs.declared.jobs.Ranges.{Ranges}
 use Rattle.tool_words.specs.declared.jobs.Shown.{Shown}
 use Rattle.tool_words.specs.declared.jobs.ListJob.{ListJob}
 use Rattle.tool_words.specs.declared.jobs.FilterJob.{FilterJob}
+use Rattle.tool_words.specs.declared.jobs.Style.{Style}
 use Rattle.tool_words.specs.declared.jobs.Searched.{Searched}
 use Rattle.tool_words.specs.declared.jobs.GrepOut.{GrepOut}
 use Rattle.tool_words.specs.declared.jobs.GrepJob.{GrepJob}
@@ -58,6 +59,15 @@ pub record PlainListJob : Type 0 where
   pub shown : PlainShown
   pub number_files : Bool
 
+-- what is done to the lines that are written; each field is that of `Style`
+pub record PlainStyle : Type 0 where
+  pub strip : ℕ
+  pub prefix : Option (List ℕ)
+  pub old_prefix : List ℕ
+  pub new_prefix : List ℕ
+  pub no_stamps : Bool
+  pub clean : Bool
+
 -- what is left of a text; each field is that of `FilterJob`
 pub record PlainFilterJob : Type 0 where
   pub input : Input
@@ -67,6 +77,7 @@ pub record PlainFilterJob : Type 0 where
   pub files : Option PlainRanges
   pub format : Option Form
   pub verbose : Bool
+  pub style : PlainStyle
 
 -- what is looked for; each field is that of `GrepJob`
 pub record PlainGrepJob : Type 0 where
@@ -122,11 +133,14 @@ plain_ranges ranges = option_map (λ r. record { items = r.items.items; others =
 abbrev pub plain_shown : Shown → PlainShown
 plain_shown s = record { numbers = s.numbers; hunks = s.hunks; status = s.status; empty_absent = s.empty_absent; strip = s.strip; prefix = s.prefix.items; label = s.label.items; hunk_label = s.hunk_label.items }
 
+abbrev pub plain_style : Style → PlainStyle
+plain_style s = record { strip = s.strip; prefix = option_map (λ p. p.items) s.prefix; old_prefix = s.old_prefix.items; new_prefix = s.new_prefix.items; no_stamps = s.no_stamps; clean = s.clean }
+
 abbrev pub plain_list_job : ListJob → PlainListJob
 plain_list_job j = record { input = j.input; select = plain_select j.select; shown = plain_shown j.shown; number_files = j.number_files }
 
 abbrev pub plain_filter_job : FilterJob → PlainFilterJob
-plain_filter_job j = record { input = j.input; select = plain_select j.select; hunks = plain_ranges j.hunks; lines = plain_ranges j.lines; files = plain_ranges j.files; format = j.format; verbose = j.verbose }
+plain_filter_job j = record { input = j.input; select = plain_select j.select; hunks = plain_ranges j.hunks; lines = plain_ranges j.lines; files = plain_ranges j.files; format = j.format; verbose = j.verbose; style = plain_style j.style }
 
 abbrev pub plain_grep_job : GrepJob → PlainGrepJob
 plain_grep_job j = record { input = j.input; select = plain_select j.select; pattern = string_bytes j.pattern; searched = j.searched; output = j.output; shown = plain_shown j.shown }

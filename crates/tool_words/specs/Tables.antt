@@ -27,9 +27,13 @@ shown_words = switch 115 (codes "status") ∷ switch 110 (codes "line-number") �
 abbrev pub list_table : List PlainWord
 list_table = shown_words ++ switch 78 (codes "number-files") ∷ switch 69 (codes "empty-files-as-absent") ∷ long_switch (codes "empty-files-as-removed") ∷ (name_words ++ file_words) ++ subject_table
 
+-- what is done to the lines that are written
+abbrev pub style_words : List PlainWord
+style_words = long_switch (codes "clean") ∷ named (codes "strip") ∷ named (codes "addprefix") ∷ named (codes "addoldprefix") ∷ named (codes "addnewprefix") ∷ long_switch (codes "remove-timestamps") ∷ []
+
 -- F 70, # 35, v 118
 abbrev pub filter_table : List PlainWord
-filter_table = name_words ++ file_words ++ (option 70 (codes "files") ∷ option 35 (codes "hunks") ∷ named (codes "lines") ∷ named (codes "format") ∷ switch 118 (codes "verbose") ∷ subject_table)
+filter_table = name_words ++ file_words ++ (option 70 (codes "files") ∷ option 35 (codes "hunks") ∷ named (codes "lines") ∷ named (codes "format") ∷ switch 118 (codes "verbose") ∷ (style_words ++ subject_table))
 
 -- E 69
 abbrev pub grep_table : List PlainWord

@@ -62,6 +62,23 @@ pub struct ListJob {
     pub number_files: bool,
 }
 
+/// What is done to the lines of file patches that are written.
+#[derive(Drop, Debug)]
+pub struct Style {
+    /// How many slashes are stripped from the names, with what stands before them.
+    pub strip: u32,
+    /// What is put in front of both names of the header lines.
+    pub prefix: Option<Vec<u8>>,
+    /// What is put in front of the old name, on the `diff` line too; in the header lines only where there is no `prefix`.
+    pub old_prefix: Vec<u8>,
+    /// The same of the new name.
+    pub new_prefix: Vec<u8>,
+    /// The header lines end behind their names.
+    pub no_stamps: bool,
+    /// No text outside of file patches is written, nor what stands behind the ranges of a hunk.
+    pub clean: bool,
+}
+
 /// One command of `filterdiff`.
 #[derive(Drop, Debug)]
 pub struct FilterJob {
@@ -77,6 +94,7 @@ pub struct FilterJob {
     pub format: Option<Form>,
     /// The text outside of file patches is written, also where no name is excluded.
     pub verbose: bool,
+    pub style: Style,
 }
 
 /// Which lines of a hunk are searched.

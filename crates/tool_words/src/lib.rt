@@ -10,6 +10,7 @@ mod readers;
 mod rows;
 mod selecting;
 mod showing;
+mod styling;
 mod tables;
 mod tools;
 mod words;
@@ -18,7 +19,7 @@ pub use calls::calls_of;
 pub use help::usage;
 pub use jobs::{
     FilterJob, GenJob, GrepJob, GrepOut, ListJob, Ranges, Searched, Select, Shown, SplitJob,
-    StackJob, StackOp, ToolJob,
+    StackJob, StackOp, Style, ToolJob,
 };
 pub use tools::{Tool, tool_named};
 pub use words::read_tool_words;

@@ -11,6 +11,7 @@ ghost use Rattle.tool_words.specs.Asked.{is_empty_absent, is_list, list_of, are_
 use crate::ranges::read_ranges;
 use crate::selecting::{is_given, is_one_given, read_operand, read_subject};
 use crate::showing::read_list;
+use crate::styling::read_style;
 use crate::{
     FilterJob, GenJob, GrepJob, GrepOut, Ranges, Searched, SplitJob, StackJob, StackOp, Tool,
     ToolJob,
@@ -76,7 +77,14 @@ fn filter_of(alloc: Global, matches: &ArgMatches<'_>) -> Result<ToolJob, WordFau
     if !is_form(value_of(matches, "format")) {
         return Err(WordFault::Usage);
     }
-    let ranges = ranges_in(alloc, matches)?;
+    let style = read_style(alloc, matches)?;
+    let ranges = match ranges_in(alloc, matches) {
+        Ok(ranges) => ranges,
+        Err(fault) => {
+            drop(style);
+            return Err(fault);
+        }
+    };
     match read_subject(alloc, matches) {
         Ok((input, select)) => Ok(ToolJob::Filter(FilterJob {
             input,
@@ -86,8 +94,10 @@ fn filter_of(alloc: Global, matches: &ArgMatches<'_>) -> Result<ToolJob, WordFau
             files: ranges.files,
             format: form_in(matches),
             verbose: is_used(matches, "verbose"),
+            style,
         })),
         Err(fault) => {
+            drop(style);
             drop(ranges);
             Err(fault)
         }

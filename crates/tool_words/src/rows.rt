@@ -110,6 +110,54 @@ pub const ADD_PREFIX: Word = Word {
     help: "show TEXT in front of names",
 };
 
+pub const CLEAN: Word = Word {
+    form: WordForm::Switch,
+    letter: None,
+    name: "clean",
+    shown: "--clean",
+    help: "write no text outside of file patches or behind @@",
+};
+
+pub const WRITTEN_STRIP: Word = Word {
+    form: WordForm::Value,
+    letter: None,
+    name: "strip",
+    shown: "--strip=N",
+    help: "write names without the front with N slashes (0)",
+};
+
+pub const WRITTEN_PREFIX: Word = Word {
+    form: WordForm::Value,
+    letter: None,
+    name: "addprefix",
+    shown: "--addprefix=TEXT",
+    help: "write TEXT in front of the names of header lines",
+};
+
+pub const OLD_PREFIX: Word = Word {
+    form: WordForm::Value,
+    letter: None,
+    name: "addoldprefix",
+    shown: "--addoldprefix=TEXT",
+    help: "write TEXT in front of old names",
+};
+
+pub const NEW_PREFIX: Word = Word {
+    form: WordForm::Value,
+    letter: None,
+    name: "addnewprefix",
+    shown: "--addnewprefix=TEXT",
+    help: "write TEXT in front of new names",
+};
+
+pub const NO_STAMPS: Word = Word {
+    form: WordForm::Switch,
+    letter: None,
+    name: "remove-timestamps",
+    shown: "--remove-timestamps",
+    help: "end header lines behind their names",
+};
+
 pub const NUMBER_FILES: Word = Word {
     form: WordForm::Switch,
     letter: Some('N'),

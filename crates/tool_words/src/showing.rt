@@ -120,7 +120,7 @@ fn file_shown<'a>(file: Option<&'a str>) -> &'a str
 }
 
 /// The bytes of a text, or none where there is no text.
-fn text_or_none(alloc: Global, text: Option<&str>) -> Result<Vec<u8>, AllocError>
+pub fn text_or_none(alloc: Global, text: Option<&str>) -> Result<Vec<u8>, AllocError>
     ensures { IfOk result (λ bytes. bytes.items ≡ unwrap_or (text_of text.entry) []) }
 {
     match text {

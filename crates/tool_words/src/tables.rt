@@ -4,11 +4,11 @@ ghost use Rattle.patch_options.specs.Simple.{plain_table};
 ghost use Rattle.tool_words.specs.Tables.{list_table, filter_table, grep_table, split_table, input_table, gen_table, stack_table};
 
 use crate::rows::{
-    ADD_PREFIX, ALL, ALL_TEXT, BUFFER, EMPTY_ABSENT, EMPTY_REMOVED, EVERY, EXCLUDE, EXCLUDE_FILE,
-    EXTENDED, FILE, FILE_COUNT, FILES, FORMAT, HUNKS, INCLUDE, INCLUDE_FILE, LINE_COUNT,
-    LINE_NUMBER, LINES, MATCHING, NO_FILE, NUMBER_FILES, ONE_FILE, ONLY_MATCH, OPERATION, PLAN,
-    REGEX, SEED, SHOWN_STRIP, SKIP_BINARY, SPLIT_FILE, STATUS, STRIP_MATCH, SYNC, VERBOSE,
-    WITH_FILE,
+    ADD_PREFIX, ALL, ALL_TEXT, BUFFER, CLEAN, EMPTY_ABSENT, EMPTY_REMOVED, EVERY, EXCLUDE,
+    EXCLUDE_FILE, EXTENDED, FILE, FILE_COUNT, FILES, FORMAT, HUNKS, INCLUDE, INCLUDE_FILE,
+    LINE_COUNT, LINE_NUMBER, LINES, MATCHING, NEW_PREFIX, NO_FILE, NO_STAMPS, NUMBER_FILES,
+    OLD_PREFIX, ONE_FILE, ONLY_MATCH, OPERATION, PLAN, REGEX, SEED, SHOWN_STRIP, SKIP_BINARY,
+    SPLIT_FILE, STATUS, STRIP_MATCH, SYNC, VERBOSE, WITH_FILE, WRITTEN_PREFIX, WRITTEN_STRIP,
 };
 use patch_options::Group;
 
@@ -60,7 +60,16 @@ static FILTER: [Group; 4] = [
     },
     Group {
         heading: "Output:\n",
-        words: &[FORMAT, ALL_TEXT],
+        words: &[
+            FORMAT,
+            ALL_TEXT,
+            CLEAN,
+            WRITTEN_STRIP,
+            WRITTEN_PREFIX,
+            OLD_PREFIX,
+            NEW_PREFIX,
+            NO_STAMPS,
+        ],
     },
     Group {
         heading: "Input:\n",

@@ -2,13 +2,13 @@ use Rattle.std.proofs.Common.{◌≡◌, ◌∙◌, Some, IfOk, length, sym, sub
 use Rattle.std.proofs.lemmas.Result.{IfOk-weaker}
 use Rattle.outside.specs.Files.{Files}
 use Rattle.name_choice.specs.Making.{told_new}
-use Rattle.name_choice.specs.Choice.{names_of, side_of, IsFound, IsWithin}
-use Rattle.name_choice.proofs.Chosen.{among_choice, moved_choice}
+use Rattle.name_choice.specs.Choice.{names_of, IsFound, IsWithin}
+use Rattle.name_choice.proofs.Chosen.{among_choice, of_moved}
 use Rattle.name_choice.proofs.choose.Goals as goal
 
 pub returns-then-is_moved-clause-chosen : goal.returns-then-is_moved-clause-chosen
 returns-then-is_moved-clause-chosen g c =
-    IfOk-weaker c.choose_moved.result _ _ (λ chosen is files told. is files told ∙ moved_choice c.deref.ensures.value c.args.patch.now.header.action c.side_of-side.result _ c.args.operand c.args.reverse c.args.posix files c.side_of-side.ensures (sym c.is_moved.ensures ∙ c.if-is_moved.true)) c.choose_moved.ensures.chosen
+    IfOk-weaker c.choose_moved.result _ _ (λ chosen is files told. is files told ∙ of_moved c.deref.ensures.value c.args.patch.now.header.action c.side_of-side.result _ c.args.operand c.args.reverse c.args.posix files c.side_of-side.ensures (sym c.is_moved.ensures ∙ c.if-is_moved.true)) c.choose_moved.ensures.chosen
 
 pub returns-then-is_moved-clause-within : goal.returns-then-is_moved-clause-within
 returns-then-is_moved-clause-within g c = subst (λ t. IfOk c.choose_moved.result (IsWithin (length t))) c.deref.ensures.value c.choose_moved.ensures.within

@@ -1,25 +1,20 @@
-use Rattle.std.proofs.Common.{ap, sym}
-use Rattle.outside.proofs.Views.{untouched_none}
-use Rattle.name_choice.specs.Choice.{existing_at, names_of}
+use Rattle.std.proofs.Common.{◌∙◌}
+use Rattle.std.proofs.lemmas.Result.{IfOk-weaker}
+use Rattle.outside.proofs.Views.{untouched_both}
+use Rattle.name_choice.specs.Choice.{names_of}
+use Rattle.name_choice.proofs.Chosen.{later_cause, other-stands}
 use Rattle.name_choice.proofs.moved.choose_moved.Goals as goal
 
-pub returns-in-Some-clause-chosen : goal.returns-in-Some-clause-chosen
-returns-in-Some-clause-chosen g c = rw (sym c.in-Some.ensures) c.existing_at.ensures.chosen
+pub returns-in-Nothing-clause-chosen : goal.returns-in-Nothing-clause-chosen
+returns-in-Nothing-clause-chosen g c =
+    let source = c.in_ok-source.ensures in
+    IfOk-weaker c.existing_if_any-in-Nothing.result _ _ (λ chosen is files told.
+    other-stands files (names_of c.args.targets.now) c.args.action c.args.side c.in_ok-source.source chosen c.source_place.result c.done_place.result c.source_place.ensures c.done_place.ensures
+    (source.chosen files told) c.in-Nothing.is (is files (source.untouched.told ∙ told))) c.existing_if_any-in-Nothing.ensures.chosen
 
-pub returns-in-None-clause-untouched : goal.returns-in-None-clause-untouched
-returns-in-None-clause-untouched g c = untouched_none _
+pub returns-in-Nothing-clause-untouched : goal.returns-in-Nothing-clause-untouched
+returns-in-Nothing-clause-untouched g c = untouched_both c.in_ok-source.ensures.untouched c.existing_if_any-in-Nothing.ensures.untouched
 
-pub returns-in-None-clause-chosen : goal.returns-in-None-clause-chosen
-returns-in-None-clause-chosen g c = λ files told. ap (existing_at files (names_of c.args.targets.now)) c.in-None.ensures
-
-pub returns-in-Some-clause-there : goal.returns-in-Some-clause-there
-returns-in-Some-clause-there g c = c.existing_at.ensures.there
-
-pub returns-in-Some-clause-cause : goal.returns-in-Some-clause-cause
-returns-in-Some-clause-cause g c = c.existing_at.ensures.cause
-
-pub returns-in-Some-clause-within : goal.returns-in-Some-clause-within
-returns-in-Some-clause-within g c = c.existing_at.ensures.within
-
-pub returns-in-Some-clause-untouched : goal.returns-in-Some-clause-untouched
-returns-in-Some-clause-untouched g c = c.existing_at.ensures.untouched
+pub returns-in-Nothing-clause-cause : goal.returns-in-Nothing-clause-cause
+returns-in-Nothing-clause-cause g c =
+    later_cause (g.T.Tree.view c.args.tree.now) (g.T.Tree.view c.existing_if_any.new.tree) (g.T.Tree.view c.existing_if_any-in-Nothing.new.tree) c.existing_if_any-in-Nothing.result c.in_ok-source.ensures.untouched c.existing_if_any-in-Nothing.ensures.cause

@@ -1,4 +1,4 @@
-use Rattle.std.proofs.Common.{◌||◌, Option, option_map, sym, ◌∙◌, ap}
+use Rattle.std.proofs.Common.{◌||◌, Option, option_map, refl, sym, ◌∙◌, ap}
 use Rattle.patch_options.specs.PlainJob.{plain_options}
 use Rattle.file_patch.specs.declared.derived.Target.{Target}
 use Rattle.patch_task.specs.Turns.{PlainTurn, renamed_by}
@@ -20,7 +20,7 @@ returns-then-is_name c =
     let t : PlainTurn = alone (plain_options c.args.turn.now.task.options.now) c.args.turn.now.task.set.now e.patch.now in
     sym (has-both t e.row e.verdicts.now q c.if-not-earlier.false
     ∙ ap (λ b. b || is_name q (option_map (λ (w : Target). w.name) (renamed_by t e.row)))
-    (ap (λ (o : Option Target). is_name q (option_map (λ w. w.name) o)) (sym (c.written_by.ensures.target t.options)) ∙ sym c.is_name.ensures ∙ c.if-is_name.true))
+    (ap (λ (o : Option Target). is_name q (option_map (λ w. w.name) o)) (sym (c.written_by.ensures.target t.options refl)) ∙ sym c.is_name.ensures ∙ c.if-is_name.true))
 
 pub returns : goal.returns
 returns c =
@@ -31,4 +31,4 @@ returns c =
     ∙ ap (λ (o : Option Target). is_name q (option_map (λ w. w.name) o)) (c.renamed_by.ensures.target t.options c.args.turn.now.task.set.now)
     ∙ sym (has-both t e.row e.verdicts.now q c.if-not-earlier.false
     ∙ ap (λ b. b || is_name q (option_map (λ (w : Target). w.name) (renamed_by t e.row)))
-    (ap (λ (o : Option Target). is_name q (option_map (λ w. w.name) o)) (sym (c.written_by.ensures.target t.options)) ∙ sym c.is_name.ensures ∙ c.if-is_name.false))
+    (ap (λ (o : Option Target). is_name q (option_map (λ w. w.name) o)) (sym (c.written_by.ensures.target t.options refl)) ∙ sym c.is_name.ensures ∙ c.if-is_name.false))

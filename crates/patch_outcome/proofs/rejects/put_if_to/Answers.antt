@@ -41,7 +41,7 @@ returns-then-is_same g c = record {
       let t : PlainTurn = alone (plain_options turn.task.options.now) turn.task.set.now e.patch.now in
       writes_is c.put_own.result _ c.put_own.ensures.writes (own_text t e.row e.verdicts.now c.args.name.now c.in-Some.target.now
       (both (has_rejects t e.verdicts.now) t.options.dry_run (sym (c.has_rejects.ensures t turn.task.set.now.text refl refl) ∙ c.if-not-has_rejects.false) c.if-turn.false)
-      (sym (c.written_by.ensures.target t.options) ∙ ap option_copied c.in-Some.is)
+      (sym (c.written_by.ensures.target t.options refl) ∙ ap option_copied c.in-Some.is)
       (sym c.is_same.ensures ∙ c.if-is_same.true)));
   rest = c.put_own.ensures.rest;
 }
@@ -53,7 +53,7 @@ returns-else-is_same g c = record {
       let e = c.args.earlier.now in
       let t : PlainTurn = alone (plain_options turn.task.options.now) turn.task.set.now e.patch.now in
       writes_is (Ok tt) _ (writes_none (g.O.Sink.view c.args.out.now) tt) (other_text t e.row e.verdicts.now c.args.name.now c.in-Some.target.now
-      (sym (c.written_by.ensures.target t.options) ∙ ap option_copied c.in-Some.is)
+      (sym (c.written_by.ensures.target t.options refl) ∙ ap option_copied c.in-Some.is)
       (sym c.is_same.ensures ∙ c.if-is_same.false)));
   rest = g.met.O.Sink.rest_none _;
 }
@@ -64,7 +64,7 @@ returns-in-None g c = record {
       let turn = c.args.turn.now in
       let e = c.args.earlier.now in
       let t : PlainTurn = alone (plain_options turn.task.options.now) turn.task.set.now e.patch.now in
-      writes_is (Ok tt) _ (writes_none (g.O.Sink.view c.args.out.now) tt) (no_writer t e.row e.verdicts.now c.args.name.now (sym (c.written_by.ensures.target t.options) ∙ ap option_copied c.in-None.is)));
+      writes_is (Ok tt) _ (writes_none (g.O.Sink.view c.args.out.now) tt) (no_writer t e.row e.verdicts.now c.args.name.now (sym (c.written_by.ensures.target t.options refl) ∙ ap option_copied c.in-None.is)));
   rest = g.met.O.Sink.rest_none _;
 }
 

@@ -12,7 +12,7 @@ use Rattle.patch_outcome.proofs.Roomy.{some-rooms, still-rooms}
 use Rattle.patch_outcome.proofs.written.with_row.Goals as goal
 
 pub returns-then-not-row-clause-written : goal.returns-then-not-row-clause-written
-returns-then-not-row-clause-written c o past p vs is old =
+returns-then-not-row-clause-written c o same past p vs is old =
     let t = alone o c.args.set.now p in
     let n = c.in_ok-kept.kept in
     some-written n (past ++ mark_of t c.args.row vs ∷ []) (λ q. old n c.in_ok-kept.was q ∙ written-still t c.args.row vs past q (unset c.args.row.wrote c.if-not-row.true))
@@ -35,7 +35,7 @@ pub mark_both-requires-clause-output : goal.mark_both-requires-clause-output
 mark_both-requires-clause-output c = (c.requires.room c.in_ok-kept.kept c.in_ok-kept.was).output
 
 pub returns-clause-written : goal.returns-clause-written
-returns-clause-written c o past p vs is old =
+returns-clause-written c o same past p vs is old =
     let v = c.args.set.now in
     let r = c.args.row in
     let n = c.in_ok-kept.kept in
@@ -43,7 +43,7 @@ returns-clause-written c o past p vs is old =
     let x = c.index-patches-patch.result in
     let at : x ≡ get_or v.patches c.args.patch x = c.index-patches-patch.is ∙ ap (λ (l : List FilePatch). get_or l c.args.patch x) c.patches.ensures.patches in
     subst (λ (y : FilePatch). AreWritten (Some m) (past ++ mark_of (alone o v y) r vs ∷ [])) (same-patch v.patches c.args.patch p x c.requires.within is at)
-    (some-written m (past ++ mark_of (alone o v x) r vs ∷ []) (λ q. written-more (alone o v x) r vs past q (is_marked n q) (is_marked m q) (isset c.args.row.wrote c.if-not-row.false) (old n c.in_ok-kept.was q) (c.mark_both.ensures.marked o q)))
+    (some-written m (past ++ mark_of (alone o v x) r vs ∷ []) (λ q. written-more (alone o v x) r vs past q (is_marked n q) (is_marked m q) (isset c.args.row.wrote c.if-not-row.false) (old n c.in_ok-kept.was q) (c.mark_both.ensures.marked o same q)))
 
 pub returns-clause-room : goal.returns-clause-room
 returns-clause-room c =

@@ -1,11 +1,11 @@
-use Rattle.std.proofs.Common.{◌≡◌, ◌⊎◌, inl, inr, ◌≤◌, ℕ, List, Some, true, refl, length, replicate, sym, ◌∙◌, ap, subst, arith}
+use Rattle.std.proofs.Common.{◌≡◌, inl, inr, ◌≤◌, ℕ, List, Some, true, refl, length, replicate, sym, ◌∙◌, ap, subst, arith}
 use Rattle.std.proofs.lemmas.List.{length-replicate}
 use Rattle.std.proofs.lemmas.Result.{IfOk-weaker}
 use Rattle.outside.specs.Calls.{untouched_both}
 use Rattle.outside.proofs.Exits.{if_ok_none}
 use Rattle.outside.proofs.Views.{untouched_quiet}
 use Rattle.hunk_core.specs.declared.Verdict.{Verdict}
-use Rattle.hunk_core.specs.declared.Verdict.TheVariants.{Ignored}
+use Rattle.hunk_core.specs.declared.Verdict.TheVariants.{Ignored, Nowhere}
 use Rattle.patch_task.specs.Outputs.{verdicts_over}
 use Rattle.patch_start.specs.declared.starting.Decision.{Decision}
 use Rattle.patch_start.specs.Starting.{IsWithin}
@@ -14,6 +14,8 @@ use Rattle.patch_run.specs.OnePatch.{total}
 use Rattle.patch_outcome.specs.TurnView.{plain_turn}
 use Rattle.patch_run.proofs.First.{is-first}
 use Rattle.patch_outcome.proofs.Marks.{rows-counted}
+use Rattle.patch_run.specs.Doing.{IsUntold, ArePlaced}
+use Rattle.patch_run.proofs.Refused.{untold_at, refuse_does}
 use Rattle.patch_run.proofs.Turning.{start_fails, lines_told, skip_does, try_does}
 use Rattle.patch_run.proofs.one_patch.apply_one.Goals as goal
 
@@ -52,14 +54,46 @@ returns-in-Skip g c = record {
   placed = (
       IfOk-weaker c.skip.result (λ (done : Done). done ≡ record { row = c.in-Skip.row; is_bad = true; effects = 0 })
       (λ (done : Done). (lines : List (List ℕ)) → (g.P.LineStore.seen c.start.new.plan).told ≡ Some lines
-      → (c.skip.new.verdicts ≡ replicate (length c.args.verdicts.now) Ignored)
-      ⊎ (c.skip.new.verdicts ≡ verdicts_over (plain_turn c.args.turn.now).options done.row.side (plain_turn c.args.turn.now).item.patch lines))
+      → ArePlaced (IsUntold (g.T.Tree.view c.args.tree.now) (g.P.LineStore.seen c.args.plan.now)) (length c.args.verdicts.now) c.skip.new.verdicts (verdicts_over (plain_turn c.args.turn.now).options done.row.side (plain_turn c.args.turn.now).item.patch lines))
       (λ done is lines told. inl c.skip.ensures.ignored) c.skip.ensures.done);
   few = (
       IfOk-weaker c.skip.result (λ (done : Done). done ≡ record { row = c.in-Skip.row; is_bad = true; effects = 0 }) (λ (done : Done). done.effects ≤ 5)
       (λ done is. omega (arith, ap (λ (d : Done). d.effects) is)) c.skip.ensures.done);
   rows = ap (λ (l : List Verdict). length l) c.skip.ensures.ignored ∙ length-replicate (length c.args.verdicts.now) Ignored;
 }
+
+pub returns-in-Refuse : goal.returns-in-Refuse
+returns-in-Refuse g c = record {
+  does = (
+      refuse_does (plain_turn c.args.turn.now) (g.T.Tree.view c.args.tree.now) (g.T.Tree.view c.start.new.tree) (g.P.LineStore.seen c.args.plan.now) (g.P.LineStore.seen c.start.new.plan) (g.O.Sink.view c.args.out.now) (g.O.Sink.view c.start.new.out) g.P.Plan.scratch_after
+      c.in_ok-row.field-0 (c.in_ok-row.ensures.starts (plain_turn c.args.turn.now).past (is-first c.args.turn.now c.requires.turn)) c.in-Refuse.place c.in-Refuse.side c.in-Refuse.is (g.T.Tree.view c.refuse.new.tree) (g.O.Sink.view c.refuse.new.out) c.refuse.new.verdicts
+      c.refuse.result c.requires.quiet c.refuse.ensures.tree c.refuse.ensures.sink c.refuse.ensures.cause c.refuse.ensures.quiet c.refuse.ensures.tidy);
+  dry = λ dry. untouched_both (c.in_ok-row.ensures.starts (plain_turn c.args.turn.now).past (is-first c.args.turn.now c.requires.turn)).untouched (c.refuse.ensures.dry dry);
+  rest = g.met.O.Sink.rest_both _ _ _ c.in_ok-row.ensures.rest c.refuse.ensures.rest;
+  placed = (
+      IfOk-weaker c.refuse.result (λ (done : Done). done.effects ≤ 1)
+      (λ (done : Done). (lines : List (List ℕ)) → (g.P.LineStore.seen c.start.new.plan).told ≡ Some lines
+      → ArePlaced (IsUntold (g.T.Tree.view c.args.tree.now) (g.P.LineStore.seen c.args.plan.now)) (length c.args.verdicts.now) c.refuse.new.verdicts (verdicts_over (plain_turn c.args.turn.now).options done.row.side (plain_turn c.args.turn.now).item.patch lines))
+      (λ done few lines told. inr (inr (
+        untold_at (plain_turn c.args.turn.now) (g.T.Tree.view c.args.tree.now) (g.T.Tree.view c.start.new.tree) (g.P.LineStore.seen c.args.plan.now) (g.P.LineStore.seen c.start.new.plan) (g.O.Sink.view c.args.out.now) (g.O.Sink.view c.start.new.out) g.P.Plan.scratch_after
+            c.in_ok-row.field-0 (c.in_ok-row.ensures.starts (plain_turn c.args.turn.now).past (is-first c.args.turn.now c.requires.turn)) c.in-Refuse.place c.in-Refuse.side c.in-Refuse.is,
+        c.refuse.ensures.nowhere,
+      ))) c.refuse.ensures.few);
+  few = IfOk-weaker c.refuse.result (λ (done : Done). done.effects ≤ 1) (λ (done : Done). done.effects ≤ 5) (λ done few. omega (arith, few)) c.refuse.ensures.few;
+  rows = ap (λ (l : List Verdict). length l) c.refuse.ensures.nowhere ∙ length-replicate (length c.args.verdicts.now) Nowhere;
+}
+
+pub refuse-requires-clause-quiet : goal.refuse-requires-clause-quiet
+refuse-requires-clause-quiet g c = untouched_quiet (c.in_ok-row.ensures.starts (plain_turn c.args.turn.now).past (is-first c.args.turn.now c.requires.turn)).untouched c.requires.quiet
+
+pub refuse-requires-clause-within : goal.refuse-requires-clause-within
+refuse-requires-clause-within g c = subst (λ (d : Decision). IsWithin (length c.args.turn.now.task.patch.now.targets.items) d) c.in-Refuse.is c.in_ok-row.ensures.within
+
+pub refuse-requires-clause-rows : goal.refuse-requires-clause-rows
+refuse-requires-clause-rows g c = c.requires.rows
+
+pub refuse-requires-clause-turn : goal.refuse-requires-clause-turn
+refuse-requires-clause-turn g c = c.requires.turn
 
 pub returns-in-Try : goal.returns-in-Try
 returns-in-Try g c = record {
@@ -76,9 +110,8 @@ returns-in-Try g c = record {
       (λ (done : Done). (lines : List (List ℕ)) → (g.P.LineStore.seen c.try_at.new.plan).told ≡ Some lines
       → c.try_at.new.verdicts ≡ verdicts_over (plain_turn c.args.turn.now).options done.row.side (plain_turn c.args.turn.now).item.patch lines)
       (λ (done : Done). (lines : List (List ℕ)) → (g.P.LineStore.seen c.try_at.new.plan).told ≡ Some lines
-      → (c.try_at.new.verdicts ≡ replicate (length c.args.verdicts.now) Ignored)
-      ⊎ (c.try_at.new.verdicts ≡ verdicts_over (plain_turn c.args.turn.now).options done.row.side (plain_turn c.args.turn.now).item.patch lines))
-      (λ done placed lines told. inr (placed lines told)) c.try_at.ensures.placed);
+      → ArePlaced (IsUntold (g.T.Tree.view c.args.tree.now) (g.P.LineStore.seen c.args.plan.now)) (length c.args.verdicts.now) c.try_at.new.verdicts (verdicts_over (plain_turn c.args.turn.now).options done.row.side (plain_turn c.args.turn.now).item.patch lines))
+      (λ done placed lines told. inr (inl (placed lines told))) c.try_at.ensures.placed);
 }
 
 pub try_at-requires-clause-rows : goal.try_at-requires-clause-rows

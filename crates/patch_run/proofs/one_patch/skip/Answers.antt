@@ -1,5 +1,4 @@
 use Rattle.outside.proofs.Exits.{if_ok_none}
-use Rattle.std.proofs.Common.{refl}
 use Rattle.std.proofs.lemmas.Bool.{false≢true}
 use Rattle.patch_run.proofs.one_patch.skip.Goals as goal
 
@@ -16,7 +15,7 @@ pub returns-in_err-tell_ignored-clause-done : goal.returns-in_err-tell_ignored-c
 returns-in_err-tell_ignored-clause-done g c = if_ok_none _ _ c.from_residual.result c.from_residual.ensures.1
 
 pub returns-clause-done : goal.returns-clause-done
-returns-clause-done g c = refl
+returns-clause-done g c = c.unplaced.ensures
 
 pub returns-clause-fault : goal.returns-clause-fault
 returns-clause-fault g c = tt

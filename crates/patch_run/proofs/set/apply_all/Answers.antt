@@ -4,17 +4,19 @@ use Rattle.std.specs.Option.{ForSome}
 use Rattle.outside.specs.Calls.{untouched_none, untouched_both}
 use Rattle.outside.proofs.Exits.{if_ok_none, on_ok_none}
 use Rattle.file_patch.specs.declared.FilePatch.{FilePatch}
+use Rattle.file_patch.specs.PlainPatch.{patch_of, row_count}
 use Rattle.patch_options.specs.PlainJob.{plain_options}
 use Rattle.patch_set.specs.Room.{HaveRoom}
 use Rattle.patch_set.specs.SetView.{SetView, hunks_in, with_row}
+use Rattle.patch_task.specs.Outputs.{verdicts_over}
 use Rattle.patch_outcome.specs.Ready.{AreNumbered, AreWritten, marks, rows_in}
-use Rattle.patch_run.specs.Doing.{StaysSet}
+use Rattle.patch_run.specs.Doing.{StaysSet, IsUntold}
 use Rattle.patch_run.specs.Applied.{Receipt}
 use Rattle.patch_run.specs.OnePatch.{Mark}
 use Rattle.patch_outcome.proofs.Marks.{patch-there, marks-none, marks-next, mark-alone}
 use Rattle.patch_run.proofs.Ready.{ready, ready_still, numbered}
 use Rattle.patch_run.proofs.Going.{IsAt, IsNext, run_to, goes_none, goes_on, at_none, at_next}
-use Rattle.patch_run.proofs.RunEnds.{IsPlacedTo, cut_ends, runs_cut, runs_all, receipt_all, placed_none, placed_next, placed_all}
+use Rattle.patch_run.proofs.RunEnds.{IsPlacedTo, cut_ends, runs_cut, runs_all, receipt_all, placed_none, placed_next, placed_all, placed_earlier, untold_earlier}
 use Rattle.patch_run.proofs.set.apply_all.Goals as goal
 
 pub loop-k-init : goal.loop-k-init
@@ -34,7 +36,7 @@ loop-k-init g c =
       at = λ f told. at_none u a d g.P.Plan.scratch_after o c.args.set.now c.args.verdicts.now f c.requires.quiet told;
       written = subst (λ (past : List Mark). AreWritten c.args.written past) (sym (marks-none o c.args.set.now c.args.verdicts.now)) c.requires.written;
       room = c.requires.room;
-      placed = λ lines told. placed_none o c.args.set.now c.args.verdicts.now lines;
+      placed = λ lines told. placed_none (IsUntold u a) o c.args.set.now c.args.verdicts.now lines;
     }
 
 pub apply_at-requires-clause-ready : goal.apply_at-requires-clause-ready
@@ -42,14 +44,14 @@ apply_at-requires-clause-ready g c =
     let inv = c.loop-k.invariant in
     let some : 0 < length c.args.set.now.patches = omega (arith, c.loop-k-test.true, ap (λ (l : List FilePatch). length l) c.patches.ensures.patches) in
     let o = plain_options c.args.options.now in
-    ready_still o c.args.set.now c.loop-k.set inv.same inv.rows (ready o c.requires.read.0 c.args.set.now c.requires.lawful c.requires.read.1 c.patches.ensures.whole some)
+    ready_still o c.args.set.now c.loop-k.set inv.same inv.rows (ready o c.args.set.now c.requires.lawful c.requires.names c.patches.ensures.whole some)
 
 pub with_row-written-requires-clause-room : goal.with_row-written-requires-clause-room
 with_row-written-requires-clause-room g c = c.loop-k.invariant.room
 
 pub apply_at-requires-clause-numbered : goal.apply_at-requires-clause-numbered
 apply_at-requires-clause-numbered g c =
-    subst (λ (l : List FilePatch). AreNumbered 0 l) (sym c.loop-k.invariant.same.patches) (numbered c.args.set.now.text 0 0 c.args.set.now.patches c.requires.read.1.spans)
+    subst (λ (l : List FilePatch). AreNumbered 0 l) (sym c.loop-k.invariant.same.patches) (numbered c.args.set.now.text 0 0 c.args.set.now.patches c.patches.ensures.whole.placed)
 
 pub loop-k-preserved : goal.loop-k-preserved
 loop-k-preserved g c =
@@ -72,7 +74,7 @@ loop-k-preserved g c =
     let same : length v.patches ≡ length c.args.set.now.patches = ap (λ (l : List FilePatch). length l) inv.same.patches in
     let lt : k < length v.patches = omega (arith, c.loop-k-test.true, same, ap (λ (l : List FilePatch). length l) c.patches.ensures.patches) in
     let p = patch-there v.patches k lt in
-    let places : AreNumbered 0 v.patches = subst (λ (l : List FilePatch). AreNumbered 0 l) (sym inv.same.patches) (numbered c.args.set.now.text 0 0 c.args.set.now.patches c.requires.read.1.spans) in
+    let places : AreNumbered 0 v.patches = subst (λ (l : List FilePatch). AreNumbered 0 l) (sym inv.same.patches) (numbered c.args.set.now.text 0 0 c.args.set.now.patches c.patches.ensures.whole.placed) in
     let next : IsNext v k p.0 vs ws = record { within = lt; at = p.1; numbered = places; rows = inv.rows; before = c.in_ok-done.ensures.before p.0 p.1 } in
     let does = c.in_ok-done.ensures.does p.0 p.1 in
     let noted : with_row v k done.row ≡ c.note.new.self = sym c.note.ensures in
@@ -95,11 +97,12 @@ loop-k-preserved g c =
       written = subst (λ (s : SetView). AreWritten c.with_row-written.result (marks o s (k + 1) ws)) noted
           (subst (λ (past : List Mark). AreWritten c.with_row-written.result past) (sym (marks-next o v k p.0 done.row vs ws places lt inv.rows p.1 next.before))
           (subst (λ (m : Mark). AreWritten c.with_row-written.result (marks o v k vs ++ m ∷ [])) (mark-alone o v k vs p.0 done.row (rows_in ws p.0))
-          (c.with_row-written.ensures.written o (marks o v k vs) p.0 (rows_in ws p.0) p.1 inv.written)));
+          (c.with_row-written.ensures.written o refl (marks o v k vs) p.0 (rows_in ws p.0) p.1 inv.written)));
       room = subst (λ (s : SetView). ForSome c.with_row-written.result (HaveRoom s.patches s.output)) noted c.with_row-written.ensures.room;
       placed = λ lines told.
-          subst (λ (s : SetView). IsPlacedTo o s (k + 1) ws lines) noted
-          (placed_next o v k p.0 done.row ws lines lt p.1 inv.rows (c.in_ok-done.ensures.placed p.0 lines p.1 told));
+          subst (λ (s : SetView). IsPlacedTo (IsUntold u a) o s (k + 1) ws lines) noted
+          (placed_next (IsUntold u a) o v k p.0 done.row ws lines lt p.1 inv.rows
+          (placed_earlier (IsUntold x b) (IsUntold u a) (row_count p.0.change) (rows_in ws p.0) (verdicts_over o done.row.side (patch_of v.text p.0) lines) (untold_earlier inv.goes) (c.in_ok-done.ensures.placed p.0 lines p.1 told)));
     }
 
 pub returns-in_err-done : goal.returns-in_err-done
@@ -121,7 +124,7 @@ returns-in_err-done g c = record {
       let same : length v.patches ≡ length c.args.set.now.patches = ap (λ (l : List FilePatch). length l) inv.same.patches in
       let lt : k < length v.patches = omega (arith, c.loop-k-test.true, same, ap (λ (l : List FilePatch). length l) c.patches.ensures.patches) in
       let p = patch-there v.patches k lt in
-      let places : AreNumbered 0 v.patches = subst (λ (l : List FilePatch). AreNumbered 0 l) (sym inv.same.patches) (numbered c.args.set.now.text 0 0 c.args.set.now.patches c.requires.read.1.spans) in
+      let places : AreNumbered 0 v.patches = subst (λ (l : List FilePatch). AreNumbered 0 l) (sym inv.same.patches) (numbered c.args.set.now.text 0 0 c.args.set.now.patches c.patches.ensures.whole.placed) in
       let next : IsNext v k p.0 c.loop-k.verdicts c.apply_at.new.verdicts = record { within = lt; at = p.1; numbered = places; rows = inv.rows; before = c.in_err-done.ensures.before p.0 p.1 } in
       runs_cut u x w a b b' d e h o c.args.set.now v k p.0 c.loop-k.verdicts c.apply_at.new.verdicts next inv.same inv.goes inv.at c.in_err-done.field-0.0 c.from_residual.result c.from_residual.ensures.1 (c.in_err-done.ensures.does p.0 p.1));
   cut = (
@@ -141,7 +144,7 @@ returns-in_err-done g c = record {
       let same : length v.patches ≡ length c.args.set.now.patches = ap (λ (l : List FilePatch). length l) inv.same.patches in
       let lt : k < length v.patches = omega (arith, c.loop-k-test.true, same, ap (λ (l : List FilePatch). length l) c.patches.ensures.patches) in
       let p = patch-there v.patches k lt in
-      let places : AreNumbered 0 v.patches = subst (λ (l : List FilePatch). AreNumbered 0 l) (sym inv.same.patches) (numbered c.args.set.now.text 0 0 c.args.set.now.patches c.requires.read.1.spans) in
+      let places : AreNumbered 0 v.patches = subst (λ (l : List FilePatch). AreNumbered 0 l) (sym inv.same.patches) (numbered c.args.set.now.text 0 0 c.args.set.now.patches c.patches.ensures.whole.placed) in
       let next : IsNext v k p.0 c.loop-k.verdicts c.apply_at.new.verdicts = record { within = lt; at = p.1; numbered = places; rows = inv.rows; before = c.in_err-done.ensures.before p.0 p.1 } in
       cut_ends u x w a b b' d e h o c.args.set.now v k p.0 c.loop-k.verdicts c.apply_at.new.verdicts next inv.same inv.goes inv.at c.in_err-done.field-0.0 c.from_residual.result c.from_residual.ensures.1 (c.in_err-done.ensures.does p.0 p.1));
   dry = λ dry. untouched_both (c.loop-k.invariant.dry dry) (c.in_err-done.ensures.dry dry);
@@ -203,5 +206,5 @@ returns g c = record {
       let inv = c.loop-k.invariant in
       let same : length c.loop-k.set.patches ≡ length c.args.set.now.patches = ap (λ (l : List FilePatch). length l) inv.same.patches in
       let all : c.loop-k.k ≡ length c.loop-k.set.patches = omega (arith, c.loop-k-test.false, same, ap (λ (l : List FilePatch). length l) c.patches.ensures.patches) in
-      placed_all (plain_options c.args.options.now) c.loop-k.set c.loop-k.k c.loop-k.verdicts lines all inv.rows (inv.placed lines told);
+      placed_all (IsUntold (g.T.Tree.view c.args.tree.now) (g.P.LineStore.seen c.args.plan.now)) (plain_options c.args.options.now) c.loop-k.set c.loop-k.k c.loop-k.verdicts lines all inv.rows (inv.placed lines told);
 }

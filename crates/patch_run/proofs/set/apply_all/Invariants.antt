@@ -6,7 +6,7 @@ use Rattle.patch_options.specs.PlainJob.{plain_options}
 use Rattle.patch_set.specs.Room.{HaveRoom}
 use Rattle.patch_set.specs.SetView.{hunks_in}
 use Rattle.patch_start.specs.Devices.{Told}
-use Rattle.patch_run.specs.Doing.{StaysSet}
+use Rattle.patch_run.specs.Doing.{StaysSet, IsUntold}
 use Rattle.patch_outcome.specs.Ready.{AreWritten, marks}
 use Rattle.patch_run.proofs.Going.{Goes, IsAt, run_to}
 use Rattle.patch_run.proofs.RunEnds.{IsPlacedTo}
@@ -32,5 +32,5 @@ invariant-loop-k g l =
       at : (f : Files) → Told u a f → IsAt u v a b c d g.P.Plan.scratch_after o l.set l.k l.verdicts l.is_bad l.effects (run_to o l.set l.k f);
       written : AreWritten l.written (marks o l.set l.k l.verdicts);
       room : ForSome l.written (HaveRoom l.set.patches l.set.output);
-      placed : (lines : List (List ℕ)) → b.told ≡ Some lines → IsPlacedTo o l.set l.k l.verdicts lines;
+      placed : (lines : List (List ℕ)) → b.told ≡ Some lines → IsPlacedTo (IsUntold u a) o l.set l.k l.verdicts lines;
     }

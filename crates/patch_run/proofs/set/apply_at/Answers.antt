@@ -1,14 +1,13 @@
-use Rattle.std.proofs.Common.{◌≡◌, ◌⊎◌, ◌+◌, ◌++◌, ℕ, List, length, take, drop, get_or, replicate, Some, refl, sym, ◌∙◌, ap, subst, arith, length-append, ◌<◌}
+use Rattle.std.proofs.Common.{◌≡◌, ◌+◌, ◌++◌, ℕ, List, length, take, drop, get_or, Some, refl, sym, ◌∙◌, ap, subst, arith, length-append, ◌<◌}
 use Rattle.std.proofs.lemmas.List.{take_at, drop_at, drop-drop}
 use Rattle.std.proofs.lemmas.List.Elements.{All-get_or}
 use Rattle.std.proofs.lemmas.Result.{IfOk-weaker}
 use Rattle.hunk_core.specs.declared.Verdict.{Verdict}
 use Rattle.file_patch.specs.declared.FilePatch.{FilePatch}
-use Rattle.hunk_core.specs.declared.Verdict.TheVariants.{Ignored}
 use Rattle.patch_task.specs.Outputs.{verdicts_over}
 use Rattle.file_patch.specs.PlainPatch.{patch_of, row_count}
 use Rattle.patch_options.specs.PlainJob.{plain_options}
-use Rattle.patch_run.specs.Doing.{Does, IsPlacedOn}
+use Rattle.patch_run.specs.Doing.{Does, IsUntold, ArePlaced, IsPlacedOn}
 use Rattle.patch_run.specs.OnePatch.{Mark, PlainTurn, ending}
 use Rattle.patch_run.specs.Run.{item_of, moved_in}
 use Rattle.patch_outcome.specs.Ready.{IsFit, AreWritten, marks, rows_in, turn_at}
@@ -97,13 +96,14 @@ returns g c = record {
       let front = c.split_at_mut-before.result.0.now in
       let rest = c.apply_front.new.verdicts in
       let seen = g.P.LineStore.seen c.apply_front.new.plan in
+      let Untold = IsUntold (g.T.Tree.view c.args.tree.now) (g.P.LineStore.seen c.args.plan.now) in
       let at : q ≡ get_or v.patches k q = c.index-patches-k.is ∙ ap (λ (l : List FilePatch). get_or l k q) c.patches.ensures.patches in
       IfOk-weaker c.apply_front.result
-      (λ done. (lines : List (List ℕ)) → seen.told ≡ Some lines → (take (row_count q.change) rest ≡ replicate (row_count q.change) Ignored) ⊎ (take (row_count q.change) rest ≡ verdicts_over o done.row.side (patch_of v.text q) lines))
-      (λ done. (p : FilePatch) (lines : List (List ℕ)) → p ≡ get_or v.patches k p → seen.told ≡ Some lines → IsPlacedOn o v.text p (front ++ rest) done.row lines)
+      (λ done. (lines : List (List ℕ)) → seen.told ≡ Some lines → ArePlaced Untold (row_count q.change) (take (row_count q.change) rest) (verdicts_over o done.row.side (patch_of v.text q) lines))
+      (λ done. (p : FilePatch) (lines : List (List ℕ)) → p ≡ get_or v.patches k p → seen.told ≡ Some lines → IsPlacedOn Untold o v.text p (front ++ rest) done.row lines)
       (λ done placed p lines here told.
-      subst (λ (x : FilePatch). IsPlacedOn o v.text x (front ++ rest) done.row lines) (same-patch v.patches k p q c.requires.within here at)
-      (placed_rows o v.text front rest q done.row lines c.split_at_mut-before.ensures.front_len (placed lines told)))
+      subst (λ (x : FilePatch). IsPlacedOn Untold o v.text x (front ++ rest) done.row lines) (same-patch v.patches k p q c.requires.within here at)
+      (placed_rows Untold o v.text front rest q done.row lines c.split_at_mut-before.ensures.front_len (placed lines told)))
       c.apply_front.ensures.placed);
   rest = c.apply_front.ensures.rest;
   dry = c.apply_front.ensures.dry;

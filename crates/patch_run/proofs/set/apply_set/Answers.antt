@@ -6,20 +6,19 @@ use Rattle.outside.specs.Files.{Files}
 use Rattle.file_patch.specs.declared.FilePatch.{FilePatch}
 use Rattle.patch_options.specs.PlainJob.{plain_options}
 use Rattle.patch_set.specs.Room.{HaveRoom}
-use Rattle.patch_set.specs.SetView.{SetView, IsRead, without_marks, hunks_in}
+use Rattle.patch_set.specs.SetView.{SetView, without_marks, hunks_in}
 use Rattle.patch_task.specs.declared.fault.RunFault.{RunFault}
 use Rattle.patch_start.specs.Devices.{Told}
+use Rattle.patch_run.specs.Finishes.{HasNames}
 use Rattle.patch_run.specs.Run.{items_of, set_run}
-use Rattle.patch_run.specs.Doing.{Runs, IsCutAt, IsReceipt, IsPlacedLast}
-use Rattle.patch_run.proofs.Ready.{read_still}
+use Rattle.patch_run.specs.Doing.{Runs, IsCutAt, IsReceipt, IsUntold, IsPlacedLast}
+use Rattle.patch_run.proofs.Ready.{names_still}
 use Rattle.patch_run.proofs.RunEnds.{ends_so}
 use Rattle.patch_run.proofs.set.apply_set.Goals as goal
 
-pub apply_all-applied-requires-clause-read : goal.apply_all-applied-requires-clause-read
-apply_all-applied-requires-clause-read g c =
-    let o = plain_options c.args.options.now in
-    let given = c.requires.read.0 in
-    (given, subst (λ (s : SetView). IsRead o given s) (sym (c.take_marks-written.ensures.left ∙ ap without_marks c.take_verdicts-verdicts.ensures.left)) (read_still o given c.args.set.now [] c.requires.read.1))
+pub apply_all-applied-requires-clause-names : goal.apply_all-applied-requires-clause-names
+apply_all-applied-requires-clause-names g c =
+    subst HasNames (sym (c.take_marks-written.ensures.left ∙ ap without_marks c.take_verdicts-verdicts.ensures.left)) (names_still c.args.set.now [] c.requires.names)
 
 pub apply_all-applied-requires-clause-written : goal.apply_all-applied-requires-clause-written
 apply_all-applied-requires-clause-written g c = c.take_marks-written.ensures.unmarked
@@ -91,12 +90,13 @@ returns g c = record {
       });
   placed = (
       let o = plain_options c.args.options.now in
+      let Untold = IsUntold (g.T.Tree.view c.args.tree.now) (g.P.LineStore.seen c.args.plan.now) in
       let new = c.apply_all-applied.new in
       let vec = c.take_verdicts-verdicts.result in
       let same : take vec.len (new.verdicts ++ drop (length new.verdicts) vec.items) ≡ new.verdicts = take_at new.verdicts (drop (length new.verdicts) vec.items) vec.len (c.apply_all-applied.ensures.verdicts ∙ ap (λ (l : List Verdict). length l) c.as_mut_slice.ensures.value ∙ sym vec.ok.0) in
-      subst (λ (s : SetView). OnOk c.apply_all-applied.result ((lines : List (List ℕ)) → (g.P.LineStore.seen new.plan).told ≡ Some lines → IsPlacedLast o s s.verdicts lines))
+      subst (λ (s : SetView). OnOk c.apply_all-applied.result ((lines : List (List ℕ)) → (g.P.LineStore.seen new.plan).told ≡ Some lines → IsPlacedLast Untold o s s.verdicts lines))
       (sym c.give_verdicts.ensures)
-      (subst (λ (l : List Verdict). OnOk c.apply_all-applied.result ((lines : List (List ℕ)) → (g.P.LineStore.seen new.plan).told ≡ Some lines → IsPlacedLast o new.set l lines))
+      (subst (λ (l : List Verdict). OnOk c.apply_all-applied.result ((lines : List (List ℕ)) → (g.P.LineStore.seen new.plan).told ≡ Some lines → IsPlacedLast Untold o new.set l lines))
       (sym same)
       c.apply_all-applied.ensures.placed));
   verdicts = (

@@ -1,5 +1,9 @@
+use Rattle.std.proofs.Common.{sym, ◌∙◌}
 use Rattle.outside.specs.Calls.{untouched_both}
 use Rattle.patch_start.proofs.obstacles.obstacle.Goals as goal
 
-pub returns-in-Ok-false-clause-untouched : goal.returns-in-Ok-false-clause-untouched
-returns-in-Ok-false-clause-untouched g c = untouched_both c.ask_if.ensures.untouched c.obstacle_to_target.ensures.untouched
+pub returns-in-Ok-None-clause-untouched : goal.returns-in-Ok-None-clause-untouched
+returns-in-Ok-None-clause-untouched g c = untouched_both c.obstacle_of_kind.ensures.untouched c.obstacle_to_writing.ensures.untouched
+
+pub obstacle_to_writing-requires-clause-there : goal.obstacle_to_writing-requires-clause-there
+obstacle_to_writing-requires-clause-there g c = λ f now. c.requires.there f (sym c.obstacle_of_kind.ensures.untouched.told ∙ now)

@@ -19,7 +19,7 @@ returns-in-Ok-Some g c = record {
   starts = starts_barred _ c.on_barred.result (λ f. on_meant (plain_task c.args.task.now) f c.args.place) c.obstacle.ensures.untouched
       (λ f told. none-some _ (sym (c.in-Ok-Some.ensures.free f told) ∙ c.in-Ok-Some.field-0-is)) c.on_barred.ensures.writes c.on_barred.ensures.fault;
   rest = c.on_barred.ensures.rest;
-  within = IfOk-weaker c.on_barred.result _ _ (λ d is. subst (IsWithin (length c.args.task.now.patch.now.targets.items)) (sym is) tt) c.on_barred.ensures.row;
+  within = IfOk-weaker c.on_barred.result _ _ (λ d is. subst (IsWithin (length c.args.task.now.patch.now.targets.items)) (sym is) c.requires.within) c.on_barred.ensures.refused;
 }
 
 pub returns-in-Err : goal.returns-in-Err
@@ -34,6 +34,9 @@ obstacle-requires-clause-within g c = c.requires.within
 
 pub obstacle-requires-clause-task : goal.obstacle-requires-clause-task
 obstacle-requires-clause-task g c = c.requires.task
+
+pub obstacle-requires-clause-there : goal.obstacle-requires-clause-there
+obstacle-requires-clause-there g c = c.requires.there
 
 pub on_free-requires-clause-within : goal.on_free-requires-clause-within
 on_free-requires-clause-within g c = c.requires.within

@@ -1,4 +1,4 @@
-use Rattle.std.proofs.Common.{◌≡◌, ◌∷◌, [], ◌++◌, ◌∙◌, List, ap, map, refl, string_bytes}
+use Rattle.std.proofs.Common.{◌∷◌, [], ◌++◌, ◌∙◌, List, ap, map, refl, string_bytes}
 use Rattle.std.proofs.lemmas.List.{map_push}
 use Rattle.clap.specs.Words.{Text}
 use Rattle.tool_words.proofs.Calling.{all_grown, grown_by}

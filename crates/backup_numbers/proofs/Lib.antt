@@ -1,0 +1,4 @@
+pub mod Each
+pub mod Last
+pub mod Next
+mod Retargeted

@@ -1,0 +1,3 @@
+mod Lined
+mod Words
+mod Small

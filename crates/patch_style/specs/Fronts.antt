@@ -1,0 +1,70 @@
+-- The lines in front of the hunks of a file patch: which of them are its own, and what is written of them (manual page of `filterdiff`).
+use Rattle.std.specs.Prelude.{ℕ, Bool, true, false, ◌&&◌, ◌||◌, List, [], ◌∷◌, ◌++◌, codes, if◌then◌else◌}
+use Rattle.hunk_core.specs.declared.Form.{Form}
+use Rattle.hunk_core.specs.declared.Form.TheVariants.{Unified, Context, Normal, Ed}
+use Rattle.tool_words.specs.PlainJobs.{PlainStyle}
+use Rattle.patch_style.specs.Names.{begins, diff_line, header_line}
+use Rattle.patch_style.specs.declared.fronts.Place.{Place}
+use Rattle.patch_style.specs.declared.fronts.Place.TheVariants.{Text, Own, OldName, NewName}
+use Rattle.patch_style.specs.declared.names.Turn.TheVariants.{Old, New}
+
+-- ---- the two header lines, which stand directly in front of the first hunk
+
+-- these lines are one that begins so
+abbrev pub is_last : List ℕ → List (List ℕ) → Bool
+is_last mark [] = false
+is_last mark (line ∷ []) = begins mark line
+is_last mark (line ∷ (next ∷ more)) = false
+
+-- the line and those behind it are the two of this form
+abbrev pub is_pair : Form → List ℕ → List (List ℕ) → Bool
+is_pair Unified line rest = begins (codes "--- ") line && is_last (codes "+++ ") rest
+is_pair Context line rest = begins (codes "*** ") line && is_last (codes "--- ") rest
+is_pair Normal line rest = false
+is_pair Ed line rest = false
+
+-- ---- a git block: a `diff` line and lines of git, directly in front of them
+
+abbrev pub is_mode_line : List ℕ → Bool
+is_mode_line line = (begins (codes "old mode ") line || begins (codes "new mode ") line) || (begins (codes "deleted file mode ") line || begins (codes "new file mode ") line)
+
+abbrev pub is_move_line : List ℕ → Bool
+is_move_line line = (begins (codes "copy from ") line || begins (codes "copy to ") line) || (begins (codes "rename from ") line || begins (codes "rename to ") line)
+
+abbrev pub is_index_line : List ℕ → Bool
+is_index_line line = begins (codes "index ") line || (begins (codes "similarity index ") line || begins (codes "dissimilarity index ") line)
+
+abbrev pub is_git_line : List ℕ → Bool
+is_git_line line = is_mode_line line || (is_move_line line || is_index_line line)
+
+-- the two header lines end these lines; in front of them stand any lines, or lines of git alone
+abbrev pub names_behind : Form → Bool → List (List ℕ) → Bool
+names_behind form any [] = false
+names_behind form any (line ∷ rest) = is_pair form line rest || ((any || is_git_line line) && names_behind form any rest)
+
+-- ---- line by line
+
+-- what a line is, by what the one in front of it is and the lines behind it
+abbrev pub place_if : Place → Bool → Bool → Place
+place_if before pair leads = if pair then OldName else if leads then Own else before
+
+abbrev pub place_of : Form → Place → List ℕ → List (List ℕ) → Place
+place_of form OldName line rest = NewName
+place_of form NewName line rest = NewName
+place_of form Text line rest = place_if Text (is_pair form line rest) (begins (codes "diff ") line && names_behind form false rest)
+place_of form Own line rest = place_if Own (is_pair form line rest) (begins (codes "diff ") line && names_behind form false rest)
+
+-- what is written of it, where text is left out or not
+abbrev pub line_at : PlainStyle → Bool → Place → List ℕ → List ℕ
+line_at s drops Text line = if drops then [] else line
+line_at s drops Own line = if begins (codes "diff ") line then diff_line s line else line
+line_at s drops OldName line = header_line s Old line
+line_at s drops NewName line = header_line s New line
+
+abbrev pub lines_behind : PlainStyle → Form → Bool → Place → List (List ℕ) → List ℕ
+lines_behind s form drops place [] = []
+lines_behind s form drops place (line ∷ rest) = line_at s drops (place_of form place line rest) line ++ lines_behind s form drops (place_of form place line rest) rest
+
+-- all of them; text is left out where header lines tell the names
+unfoldable pub front : PlainStyle → Form → List (List ℕ) → List ℕ
+front s form lines = lines_behind s form (s.clean && names_behind form true lines) Text lines

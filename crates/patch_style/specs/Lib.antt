@@ -1,0 +1,4 @@
+pub mod Names
+pub mod Fronts
+pub mod Styled
+pub mod Memory

@@ -1,0 +1,202 @@
+//! The lines in front of the hunks of a file patch.
+
+ghost use Rattle.std.specs.Prelude.{◌≡◌, ◌++◌, ◌&&◌, ◌||◌, true, codes, false, OnOk};
+ghost use Rattle.line_list.specs.Lines.{IsLineAt, lines};
+ghost use Rattle.tool_words.specs.PlainJobs.{plain_style};
+ghost use Rattle.patch_style.specs.Names.{begins};
+ghost use Rattle.patch_style.specs.Fronts.{front, is_git_line, is_index_line, is_last, is_mode_line, is_move_line, is_pair, line_at, names_behind, place_if, place_of};
+
+use crate::names::{Turn, put, put_diff_line, put_header_line};
+use hunk_core::Form;
+use line_list::next_line;
+use std::alloc::AllocError;
+use tool_words::Style;
+
+/// What a line in front of the hunks is.
+#[derive(Clone, Copy)]
+pub enum Place {
+    /// Text that isn't the file patch's own.
+    Text,
+    /// A line of a git block.
+    Own,
+    OldName,
+    NewName,
+}
+
+/// Whether the text is one line that begins so.
+fn is_last(mark: &[u8], rest: &[u8]) -> bool
+    ensures { result ≡ is_last mark.now (lines rest.now) }
+{
+    match next_line(rest, 0) {
+        Some(end) => begins_last(mark, rest, end),
+        None => false,
+    }
+}
+
+/// The same of the line that ends at a place.
+fn begins_last(mark: &[u8], rest: &[u8], end: usize) -> bool
+    requires { IsLineAt rest.now 0 end }
+    ensures { result ≡ is_last mark.now (lines rest.now) }
+{
+    match next_line(rest, end) {
+        Some(_) => false,
+        None => rest[..end].starts_with(mark),
+    }
+}
+
+/// Whether the line and the text behind it are the two header lines.
+fn is_pair(form: Form, line: &[u8], rest: &[u8]) -> bool
+    ensures { result ≡ is_pair form line.now (lines rest.now) }
+{
+    match form {
+        Form::Unified => line.starts_with(b"--- ") && is_last(b"+++ ", rest),
+        Form::Context => line.starts_with(b"*** ") && is_last(b"--- ", rest),
+        Form::Normal | Form::Ed => false,
+    }
+}
+
+fn is_mode_line(line: &[u8]) -> bool
+    ensures { result ≡ is_mode_line line.now }
+{
+    (line.starts_with(b"old mode ") || line.starts_with(b"new mode "))
+        || (line.starts_with(b"deleted file mode ") || line.starts_with(b"new file mode "))
+}
+
+fn is_move_line(line: &[u8]) -> bool
+    ensures { result ≡ is_move_line line.now }
+{
+    (line.starts_with(b"copy from ") || line.starts_with(b"copy to "))
+        || (line.starts_with(b"rename from ") || line.starts_with(b"rename to "))
+}
+
+fn is_index_line(line: &[u8]) -> bool
+    ensures { result ≡ is_index_line line.now }
+{
+    line.starts_with(b"index ")
+        || (line.starts_with(b"similarity index ") || line.starts_with(b"dissimilarity index "))
+}
+
+fn is_git_line(line: &[u8]) -> bool
+    ensures { result ≡ is_git_line line.now }
+{
+    is_mode_line(line) || (is_move_line(line) || is_index_line(line))
+}
+
+/// Whether the line may stand in front of the two header lines, where any may or lines of git alone.
+fn passes(any: bool, line: &[u8]) -> bool
+    ensures { result ≡ (any || is_git_line line.now) }
+{
+    any || is_git_line(line)
+}
+
+/// Whether the two header lines end the text, in front of which any lines stand, or lines of git alone.
+fn names_behind(form: Form, any: bool, text: &[u8]) -> bool
+    ensures { result ≡ names_behind form any (lines text.now) }
+{
+    let mut at = 0;
+    'lines: while let Some(end) = next_line(text, at) {
+        let line = &text[at..end];
+        if is_pair(form, line, &text[end..]) {
+            return true;
+        }
+        if !passes(any, line) {
+            return false;
+        }
+        at = end;
+    }
+    false
+}
+
+/// Whether the line begins a git block, which the two header lines follow.
+fn leads(form: Form, line: &[u8], rest: &[u8]) -> bool
+    ensures { result ≡ (begins (codes "diff ") line.now && names_behind form false (lines rest.now)) }
+{
+    line.starts_with(b"diff ") && names_behind(form, false, rest)
+}
+
+fn place_if(before: Place, pair: bool, leads: bool) -> Place
+    ensures { result ≡ place_if before pair leads }
+{
+    if pair {
+        Place::OldName
+    } else if leads {
+        Place::Own
+    } else {
+        before
+    }
+}
+
+/// What a line is, by what the one in front of it is and the text behind it.
+fn place_of(form: Form, before: Place, line: &[u8], rest: &[u8]) -> Place
+    ensures { result ≡ place_of form before line.now (lines rest.now) }
+{
+    match before {
+        Place::OldName | Place::NewName => Place::NewName,
+        Place::Text => place_if(
+            Place::Text,
+            is_pair(form, line, rest),
+            leads(form, line, rest),
+        ),
+        Place::Own => place_if(
+            Place::Own,
+            is_pair(form, line, rest),
+            leads(form, line, rest),
+        ),
+    }
+}
+
+/// Puts a line of a git block down.
+fn put_own_line(out: &mut Vec<u8>, style: &Style, line: &[u8]) -> Result<(), AllocError>
+    ensures { OnOk result (out.new.items ≡ out.old.items ++ line_at (plain_style style.now) false Place.Own line.now) }
+{
+    if line.starts_with(b"diff ") {
+        return put_diff_line(out, style, line);
+    }
+    put(out, line)
+}
+
+/// Puts down what is written of a line, where text is left out or not.
+fn put_line(
+    out: &mut Vec<u8>,
+    style: &Style,
+    drops: bool,
+    place: Place,
+    line: &[u8],
+) -> Result<(), AllocError>
+    ensures { OnOk result (out.new.items ≡ out.old.items ++ line_at (plain_style style.now) drops place line.now) }
+{
+    match place {
+        Place::Text => { if drops { Ok(()) } else { put(out, line) } }
+        Place::Own => put_own_line(out, style, line),
+        Place::OldName => put_header_line(out, style, Turn::Old, line),
+        Place::NewName => put_header_line(out, style, Turn::New, line),
+    }
+}
+
+/// Whether text is left out: header lines tell the names.
+fn drops_text(style: &Style, form: Form, text: &[u8]) -> bool
+    ensures { result ≡ (style.now.clean && names_behind form true (lines text.now)) }
+{
+    style.clean && names_behind(form, true, text)
+}
+
+/// Puts down the lines in front of the hunks of a file patch.
+pub fn put_front(
+    out: &mut Vec<u8>,
+    style: &Style,
+    form: Form,
+    text: &[u8],
+) -> Result<(), AllocError>
+    ensures { OnOk result (out.new.items ≡ out.old.items ++ front (plain_style style.now) form (lines text.now)) }
+{
+    let drops = drops_text(style, form, text);
+    let mut at = 0;
+    let mut place = Place::Text;
+    'lines: while let Some(end) = next_line(text, at) {
+        let line = &text[at..end];
+        place = place_of(form, place, line, &text[end..]);
+        put_line(out, style, drops, place, line)?;
+        at = end;
+    }
+    Ok(())
+}

@@ -1,0 +1,12 @@
+//! What `filterdiff` does to the names and the text of the file patches that it writes: from a text to a text.
+#![tactic(auto)]
+
+mod fronts;
+mod hunks;
+mod memory;
+mod names;
+mod rows;
+mod styling;
+
+pub use memory::Memory;
+pub use styling::{is_plain, restyle};
