@@ -75,6 +75,7 @@ tell("indented", {b"f": b"a\n"}, b"".join(b"  " + line for line in ONE.splitline
 tell("mangled-context", {b"f": b"1\n2\n"}, b"*** f\n--- f\n**************\n*** 1,2 ****\n  1\n! 2\n--- 1,2 ----\n  1\n! two\n")
 tell("headerless-hunks", {b"f": b"a\n"}, ONE + b"some text\n@@ -1 +1 @@\n-b\n+c\n")
 tell("git-hunks-alone", {b"f": b"a\n"}, git(b"g", b"rename from f\nrename to g\n@@ -1 +1 @@\n-a\n+b\n", b"f"), "-p1")
+tell("git-names-apart", {b"f": b"a\n", b"g": b"a\n"}, git(b"f2", b"similarity index 100%\nrename from f\nrename to f2\n--- a/g\n+++ b/g\n@@ -1 +1 @@\n-a\n+b\n", b"f"), "-p1")
 tell("git-links", {b"l": Entry("link", b"f")}, git(b"m", b"similarity index 100%\nrename from l\nrename to m\n", b"l"), "-p1")
 tell("in-the-way", {b"f/x": b"a\n", b"f.rej/x": b"a\n"}, MADE)
 tell("links-on-the-way", {b"d": Entry("dir"), b"d/f": Entry(data=b"a\n"), b"l": Entry("link", b"d")}, ONE.replace(b" f\n", b" l/f\n"))

@@ -57,12 +57,16 @@ hunks_text s form text = if s.clean then flat_map (hunk_line form) (lines text) 
 abbrev pub text_unless : Bool → List ℕ → List ℕ
 text_unless clean text = if clean then [] else text
 
--- the lines in front of a bare git header are text
+-- a git header without hunks is text: without what ends it, it would be read as that of the file patch behind it
+abbrev pub is_text : PlainStyle → Region → Bool
+is_text s r = s.clean && r.header.bare
+
+-- the lines in front of such a header are written as they are
 abbrev pub front_in : PlainStyle → Form → Bool → List ℕ → List ℕ
-front_in s form bare text = if bare then text_unless s.clean text else front s form (lines text)
+front_in s form bare text = if bare then text else front s form (lines text)
 
 abbrev pub region_text : PlainStyle → List ℕ → Region → List ℕ
-region_text s text r = front_in s r.header.form r.header.bare (slice_range text r.start r.header.at) ++ hunks_text s r.header.form (slice_range text r.header.at r.end)
+region_text s text r = if is_text s r then [] else front_in s r.header.form r.header.bare (slice_range text r.start r.header.at) ++ hunks_text s r.header.form (slice_range text r.header.at r.end)
 
 -- file patches from a place on, and the text behind them
 abbrev pub styled_from : PlainStyle → List ℕ → ℕ → List Region → List ℕ

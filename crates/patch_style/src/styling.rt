@@ -4,7 +4,7 @@ ghost use Rattle.std.specs.Prelude.{◌≡◌, ◌≤◌, ◌++◌, ◌||◌, fa
 ghost use Rattle.line_list.specs.Lines.{lines};
 ghost use Rattle.tool_words.specs.PlainJobs.{plain_style};
 ghost use Rattle.patch_text.specs.Regions.{region_of};
-ghost use Rattle.patch_style.specs.Styled.{front_in, is_nameless, is_plain, region_text, restyled, styled_from, text_unless};
+ghost use Rattle.patch_style.specs.Styled.{front_in, is_nameless, is_plain, is_text, region_text, restyled, styled_from, text_unless};
 
 use crate::fronts::put_front;
 use crate::hunks::put_hunks;
@@ -51,13 +51,17 @@ fn put_front_in(
 ) -> Result<(), AllocError>
     ensures { OnOk result (out.new.items ≡ out.old.items ++ front_in (plain_style style.now) form bare text.now) }
 {
-    if !bare {
-        return put_front(out, style, form, text);
+    if bare {
+        return put(out, text);
     }
-    if style.clean {
-        return Ok(());
-    }
-    put(out, text)
+    put_front(out, style, form, text)
+}
+
+/// Whether a file patch is text that is left out: a git header without hunks.
+fn is_text(style: &Style, patch: &FilePatch) -> bool
+    ensures { result ≡ is_text (plain_style style.now) (region_of patch.now) }
+{
+    style.clean && patch.header.bare
 }
 
 /// Puts a file patch down.
@@ -69,6 +73,9 @@ fn put_region(
 ) -> Result<(), AllocError>
     ensures { OnOk result (out.new.items ≡ out.old.items ++ region_text (plain_style style.now) text.now (region_of patch.now)) }
 {
+    if is_text(style, patch) {
+        return Ok(());
+    }
     let form = patch.header.form;
     let front = between(text, patch.span.start as usize, patch.header.at);
     put_front_in(out, style, form, patch.header.bare, front)?;
