@@ -11,6 +11,7 @@ use Rattle.patch_options.specs.PlainJob.{PlainOptions}
 use Rattle.patch_options.specs.declared.options.PlanKind.{PlanKind}
 use Rattle.patch_options.specs.declared.options.PlanKind.TheVariants.{Auto}
 use Rattle.patch_options.specs.declared.options.BackupNumbers.{BackupNumbers}
+use Rattle.patch_options.specs.declared.options.BackupNumbers.TheVariants.{Existing}
 use Rattle.patch_options.specs.declared.options.FileTimes.{FileTimes}
 use Rattle.patch_options.specs.declared.options.FileTimes.TheVariants.{Written, Local, Utc}
 use Rattle.patch_options.specs.declared.options.ReadOnlyFiles.{ReadOnlyFiles}
@@ -113,9 +114,13 @@ mismatch_backup rows = if is_used rows (codes "posix") then is_used rows (codes 
 abbrev pub is_backup_named : List Row → Bool
 is_backup_named rows = is_some (value_of rows (codes "suffix")) || (is_some (value_of rows (codes "prefix")) || is_some (value_of rows (codes "basename-prefix")))
 
--- whether names of backups have numbers
+-- whether they have numbers where nothing is said of it: with `-b` where such a backup is there already, but for `--posix`
+abbrev pub usual_numbers : List Row → BackupNumbers
+usual_numbers rows = if is_used rows (codes "backup") && not (is_used rows (codes "posix")) then Existing else BackupNumbers.Never
+
+-- whether names of backups have numbers (GNU patch manual, "Backup Files")
 abbrev pub numbers_in : List Row → BackupNumbers
-numbers_in rows = if is_backup_named rows then BackupNumbers.Never else unwrap_or (option_and_then backup_numbers_of (value_of rows (codes "version-control"))) BackupNumbers.Never
+numbers_in rows = if is_backup_named rows then BackupNumbers.Never else unwrap_or (option_and_then backup_numbers_of (value_of rows (codes "version-control"))) (usual_numbers rows)
 
 -- what is done about files that may not be written to
 abbrev pub read_only_in : List Row → ReadOnlyFiles

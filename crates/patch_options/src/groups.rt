@@ -284,7 +284,7 @@ const BACKUPS: &[Word] = &[
         letter: Some('V'),
         name: "version-control",
         shown: "-V KIND, --version-control=never|existing|numbered",
-        help: "numbers in their names (never)",
+        help: "numbers (with -b: existing)",
     },
 ];
 

@@ -4,7 +4,7 @@ ghost use Rattle.patch_options.specs.Forms.{number_of, buffer_of, usual_buffer, 
 ghost use Rattle.patch_options.specs.HasNames.{HasNames};
 ghost use Rattle.patch_options.specs.PlainJob.{plain_options};
 ghost use Rattle.patch_options.specs.Simple.{rows_in};
-ghost use Rattle.patch_options.specs.Table.{uses, value_of, text_of, is_used, are_both_used, forms_named, exclusions_hold, is_backup_named, numbers_in, read_only_in, times_in, switches_agree, numbers_agree, words_agree, writing_agrees, others_agree, values_agree, is_command, options_of, only_form, mismatch_backup, sync_in, plan_in, buffer_size};
+ghost use Rattle.patch_options.specs.Table.{uses, value_of, text_of, is_used, are_both_used, forms_named, exclusions_hold, is_backup_named, usual_numbers, numbers_in, read_only_in, times_in, switches_agree, numbers_agree, words_agree, writing_agrees, others_agree, values_agree, is_command, options_of, only_form, mismatch_backup, sync_in, plan_in, buffer_size};
 
 use crate::admitted::{
     has_backup_kind, has_get_form, has_macro_name, has_quoting_style, has_read_only,
@@ -246,9 +246,21 @@ fn numbers_in(matches: &ArgMatches<'_>) -> BackupNumbers
     if is_backup_named(matches) {
         return BackupNumbers::Never;
     }
+    let usual = usual_numbers(matches);
     match value_of(matches, "version-control") {
-        Some(text) => backup_numbers_of(text).unwrap_or(BackupNumbers::Never),
-        None => BackupNumbers::Never,
+        Some(text) => backup_numbers_of(text).unwrap_or(usual),
+        None => usual,
+    }
+}
+
+/// Whether they have numbers where nothing is said of it.
+fn usual_numbers(matches: &ArgMatches<'_>) -> BackupNumbers
+    ensures { result ≡ usual_numbers (rows_in matches.now) }
+{
+    if is_used(matches, "backup") && !is_used(matches, "posix") {
+        BackupNumbers::Existing
+    } else {
+        BackupNumbers::Never
     }
 }
 
