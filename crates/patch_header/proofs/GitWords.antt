@@ -1,13 +1,16 @@
 -- What git headers say, in words.
 use Rattle.std.proofs.Common.{◌≡◌, ◌↔◌, ℕ, suc, ◌+◌, ◌%◌, Bool, true, false, cond, not, ◌&&◌, ◌||◌, List, [], ◌∷◌, ◌++◌, length, reverse, take, drop, get_or, Some, refl, sym, ap, ◌∙◌, arith, append_assoc, length-append}
+use Rattle.std.proofs.lemmas.Bool.{false≢true}
 use Rattle.std.specs.Prelude.{unwrap_or, codes, ◌==◌}
-use Rattle.std.specs.List.{AllByRecursion}
+use Rattle.std.specs.List.{list_any, AllByRecursion}
 use Rattle.std.specs.Option.{option_or}
 use Rattle.std.proofs.Math.Seq.{get_or-append_seam}
 use Rattle.std.proofs.lemmas.List.{append-nil, reverse-append, take-append-le, take_all}
 use Rattle.hunk_core.specs.LineTests.{after}
 use Rattle.patch_header.specs.Content.{content}
-use Rattle.patch_header.specs.GitHeaders.{starts, is_git_line, is_extended, extended_run, behind_run, is_index_line, has_line, action_of, is_plain, changes_mode, asks_alone, leads, begins_bare}
+use Rattle.patch_header.specs.GitHeaders.{starts, is_git_line, is_extended, extended_run, behind_run, is_index_line, has_line, action_of, is_plain, changes_mode, asks_alone, has_new_name, has_names, leads, begins_bare}
+use Rattle.patch_header.specs.NamesFit.{tells, gives, is_free, fits, old_fits, new_fits}
+use Rattle.unified_form.specs.Hunks.{begins_hunk}
 use Rattle.patch_header.specs.GitRows.{half, are_alike, has_halves, header_back, old_name_back, new_name_back, led_rows}
 use Rattle.patch_header.specs.Region.{Row}
 use Rattle.header_record.specs.declared.Action.{Action}
@@ -107,13 +110,13 @@ copy-words ls h =
 
 -- ---- modes, and contents alone
 
-pub modes-words : (git : List ℕ) (rest : List (List ℕ)) → is_git_line git ≡ true → leads (behind_run rest) ≡ false → has_line (codes "old mode ") (extended_run rest) ≡ true → has_line (codes "new mode ") (extended_run rest) ≡ true
+pub modes-words : (git : List ℕ) (rest : List (List ℕ)) → is_git_line git ≡ true → leads (extended_run rest) (behind_run rest) ≡ false → has_line (codes "old mode ") (extended_run rest) ≡ true → has_line (codes "new mode ") (extended_run rest) ≡ true
     → begins_bare (git ∷ rest) ≡ true
 unfolding begins_bare asks_alone
 modes-words git rest is none old new =
     let run = extended_run rest in
     let plain = not (is_plain (action_of run)) in
-    ap (λ v. v && (not (leads (behind_run rest)) && (plain || changes_mode run))) is
+    ap (λ v. v && (not (leads (extended_run rest) (behind_run rest)) && (plain || changes_mode run))) is
     ∙ ap (λ v. not v && (plain || changes_mode run)) none
     ∙ ap (λ v. plain || (v && has_line (codes "new mode ") run)) old
     ∙ ap (λ v. plain || v) new
@@ -192,9 +195,44 @@ contents-words git rest h =
     let no = contents-lines run h in
     let plain : action_of run ≡ Plain = action-by run
     ∙ plain-chosen (has_new run) (has_deleted run) (has_line (codes "rename from ") run) (has_line (codes "rename to ") run) (has_line (codes "copy from ") run) (has_line (codes "copy to ") run) no.new no.deleted no.rename no.copy in
-    ap (λ a. is_git_line git && (not (leads (behind_run rest)) && (not (is_plain a) || changes_mode run))) plain
-    ∙ ap (λ v. is_git_line git && (not (leads (behind_run rest)) && (v && has_line (codes "new mode ") run))) no.mode
-    ∙ no-more (is_git_line git) (not (leads (behind_run rest)))
+    ap (λ a. is_git_line git && (not (leads (extended_run rest) (behind_run rest)) && (not (is_plain a) || changes_mode run))) plain
+    ∙ ap (λ v. is_git_line git && (not (leads (extended_run rest) (behind_run rest)) && (v && has_line (codes "new mode ") run))) no.mode
+    ∙ no-more (is_git_line git) (not (leads (extended_run rest) (behind_run rest)))
+
+-- ---- names that are apart
+
+and-none : (v : Bool) → (v && false) ≡ false
+and-none true = refl
+and-none false = refl
+
+pub old-apart-words : (old : List ℕ) (run rest : List (List ℕ)) → begins_hunk (old ∷ rest) ≡ false → old_fits run old ≡ false → leads run (old ∷ rest) ≡ false
+old-apart-words old run rest hunk none =
+    ap (λ v. v || has_names run (old ∷ rest)) hunk
+    ∙ ap (λ v. starts (codes "--- ") old && (v && has_new_name run rest)) none
+    ∙ and-none (starts (codes "--- ") old)
+
+pub new-apart-words : (old new : List ℕ) (run rest : List (List ℕ)) → begins_hunk (old ∷ new ∷ rest) ≡ false → new_fits run new ≡ false → leads run (old ∷ new ∷ rest) ≡ false
+new-apart-words old new run rest hunk none =
+    ap (λ v. v || has_names run (old ∷ new ∷ rest)) hunk
+    ∙ ap (λ v. starts (codes "--- ") old && (old_fits run old && (starts (codes "+++ ") new && (v && begins_hunk rest)))) none
+    ∙ ap (λ v. starts (codes "--- ") old && (old_fits run old && v)) (and-none (starts (codes "+++ ") new))
+    ∙ ap (λ v. starts (codes "--- ") old && v) (and-none (old_fits run old))
+    ∙ and-none (starts (codes "--- ") old)
+
+not-or : (v w : Bool) → v ≡ false → (not v || w) ≡ true
+not-or true w e = absurd (false≢true (sym e))
+not-or false w e = refl
+
+-- lines that give no name to a side leave it open
+pub unnamed-words : (one two name : List ℕ) (run : List (List ℕ)) → list_any (tells one two) run ≡ false → fits one two run name ≡ true
+unnamed-words one two name run none = not-or (list_any (tells one two) run) (is_free name || list_any (gives name one two) run) none
+
+pub no-file-words : (one two : List ℕ) (run : List (List ℕ)) → fits one two run (codes "/dev/null") ≡ true
+no-file-words one two run = by (list_any (tells one two) run)
+  where
+    by : (v : Bool) → (not v || true) ≡ true
+    by true = refl
+    by false = refl
 
 -- ---- what leads an opening
 

@@ -4,6 +4,7 @@ use Rattle.std.specs.List.{list_any}
 use Rattle.hunk_core.specs.LineTests.{after}
 use Rattle.unified_form.specs.Hunks.{begins_hunk}
 use Rattle.patch_header.specs.Content.{content}
+use Rattle.patch_header.specs.NamesFit.{old_fits, new_fits}
 use Rattle.header_record.specs.declared.Action.{Action}
 use Rattle.header_record.specs.declared.Action.TheVariants.{Plain, New, Deleted, Rename, Copy}
 
@@ -73,21 +74,21 @@ changes_mode ls = has_line (codes "old mode ") ls && has_line (codes "new mode "
 unfoldable pub asks_alone : List (List ℕ) → Bool
 asks_alone ls = not (is_plain (action_of ls)) || changes_mode ls
 
--- a line of the new name, and a hunk directly behind it
-abbrev pub has_new_name : List (List ℕ) → Bool
-has_new_name [] = false
-has_new_name (line ∷ rest) = starts (codes "+++ ") line && begins_hunk rest
+-- a line of the new name, which fits these extended lines of a git header, and a hunk directly behind it
+abbrev pub has_new_name : List (List ℕ) → List (List ℕ) → Bool
+has_new_name run [] = false
+has_new_name run (line ∷ rest) = starts (codes "+++ ") line && (new_fits run line && begins_hunk rest)
 
--- lines of both names, and a hunk directly behind them
-abbrev pub has_names : List (List ℕ) → Bool
-has_names [] = false
-has_names (line ∷ rest) = starts (codes "--- ") line && has_new_name rest
+-- lines of both names, which fit them, and a hunk directly behind them
+abbrev pub has_names : List (List ℕ) → List (List ℕ) → Bool
+has_names run [] = false
+has_names run (line ∷ rest) = starts (codes "--- ") line && (old_fits run line && has_new_name run rest)
 
--- a git header leads what begins with these lines: a hunk, or lines of both names and a hunk
-abbrev pub leads : List (List ℕ) → Bool
-leads ls = begins_hunk ls || has_names ls
+-- a git header leads what begins with these lines: a hunk, or lines of both names that fit it, and a hunk
+abbrev pub leads : List (List ℕ) → List (List ℕ) → Bool
+leads run ls = begins_hunk ls || has_names run ls
 
 -- a bare git header begins these lines: it leads nothing that follows it directly, and asks for something on its own
 unfoldable pub begins_bare : List (List ℕ) → Bool
 begins_bare [] = false
-begins_bare (line ∷ rest) = is_git_line line && (not (leads (behind_run rest)) && asks_alone (extended_run rest))
+begins_bare (line ∷ rest) = is_git_line line && (not (leads (extended_run rest) (behind_run rest)) && asks_alone (extended_run rest))

@@ -3,6 +3,7 @@ pub mod Content
 pub mod Openings
 pub mod Region
 pub mod Values
+pub mod NamesFit
 pub mod GitHeaders
 pub mod GitRows
 pub mod Said

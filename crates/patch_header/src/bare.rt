@@ -17,6 +17,7 @@ use crate::git_lines::{
     to_in, with_line,
 };
 use crate::git_names::{new_half, old_half};
+use crate::names_fit::{new_fits, old_fits};
 use crate::region::{Seen, Tail, tail_of};
 use crate::values::{index_in, whole_in, word_in};
 use header_record::Header;
@@ -69,43 +70,56 @@ fn extended_from(text: &[u8], at: usize, number: u64) -> Block
     here
 }
 
-fn has_new_name(text: &[u8], at: usize) -> bool
-    requires { at ≤ length text.now }
-    ensures { result ≡ has_new_name (lines (drop at text.now)) }
+/// Whether a line of the new name of a git header whose extended lines begin at `from` stands here, and a hunk
+/// directly behind it.
+fn has_new_name(text: &[u8], from: usize, at: usize) -> bool
+    requires from { from ≤ length text.now }
+    requires within { at ≤ length text.now }
+    ensures { result ≡ has_new_name (extended_run (lines (drop from text.now))) (lines (drop at text.now)) }
 {
     match next_line(text, at) {
         None => false,
-        Some(end) => starts(&text[at..end], b"+++ ") && unified_form::at_opening(text, end),
+        Some(end) => {
+            let line = &text[at..end];
+            starts(line, b"+++ ")
+                && (new_fits(text, from, line) && unified_form::at_opening(text, end))
+        }
     }
 }
 
-/// Whether lines of both names stand here, and a hunk directly behind them.
-fn has_names(text: &[u8], at: usize) -> bool
-    requires { at ≤ length text.now }
-    ensures { result ≡ has_names (lines (drop at text.now)) }
+/// Whether lines of both its names stand here, and a hunk directly behind them.
+fn has_names(text: &[u8], from: usize, at: usize) -> bool
+    requires from { from ≤ length text.now }
+    requires within { at ≤ length text.now }
+    ensures { result ≡ has_names (extended_run (lines (drop from text.now))) (lines (drop at text.now)) }
 {
     match next_line(text, at) {
         None => false,
-        Some(end) => starts(&text[at..end], b"--- ") && has_new_name(text, end),
+        Some(end) => {
+            let line = &text[at..end];
+            starts(line, b"--- ") && (old_fits(text, from, line) && has_new_name(text, from, end))
+        }
     }
 }
 
-/// Whether a git header leads what stands here: a hunk, or lines of both names and a hunk.
-fn leads(text: &[u8], at: usize) -> bool
-    requires { at ≤ length text.now }
-    ensures { result ≡ leads (lines (drop at text.now)) }
+/// Whether that git header leads what stands here: a hunk, or lines of both its names and a hunk.
+fn leads(text: &[u8], from: usize, at: usize) -> bool
+    requires from { from ≤ length text.now }
+    requires within { at ≤ length text.now }
+    ensures { result ≡ leads (extended_run (lines (drop from text.now))) (lines (drop at text.now)) }
 {
-    unified_form::at_opening(text, at) || has_names(text, at)
+    unified_form::at_opening(text, at) || has_names(text, from, at)
 }
 
-/// Whether the extended lines from a place on ask for something on their own, and lead nothing behind them.
+/// Whether the git header whose extended lines begin at a place asks for something on its own, and leads nothing
+/// behind them.
 fn stands_alone(text: &[u8], at: usize) -> bool
     requires short { length text.now < 2 ^ 32 }
     requires within { at ≤ length text.now }
-    ensures { result ≡ (not (leads (behind_run (lines (drop at text.now)))) && asks_alone (extended_run (lines (drop at text.now)))) }
+    ensures { result ≡ (not (leads (extended_run (lines (drop at text.now))) (behind_run (lines (drop at text.now)))) && asks_alone (extended_run (lines (drop at text.now)))) }
 {
     let block = extended_from(text, at, 0);
-    !leads(text, block.end) && asks_alone(block.lines)
+    !leads(text, at, block.end) && asks_alone(block.lines)
 }
 
 /// Whether a bare git header begins with the line from `at` up to `end`. It looks ahead over its

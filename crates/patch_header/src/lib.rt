@@ -7,6 +7,7 @@ mod git_lines;
 mod git_names;
 mod git_trail;
 mod header;
+mod names_fit;
 mod openings;
 mod region;
 mod search;
@@ -16,6 +17,7 @@ mod words;
 
 pub use bare::bare_end;
 pub use content::is_binary;
+pub use git_lines::is_git_line;
 pub use openings::{Stop, one_thing_stands};
 pub use search::{HeaderStep, header_from, next_header};
 pub use ways::{Ways, plainly};

@@ -52,7 +52,7 @@ pub fn length_or(bare: usize, bytes: &[u8]) -> usize
 }
 
 /// How long the name in front is.
-fn name_length(bytes: &[u8]) -> usize
+pub fn name_length(bytes: &[u8]) -> usize
     ensures is { result ≡ name_length bytes.now }
     ensures within { result ≤ length bytes.now }
 {
@@ -71,7 +71,7 @@ fn before_tab(bytes: &[u8]) -> usize
 }
 
 /// How long the name of an `Index:` line is that stands in front.
-fn index_length(bytes: &[u8]) -> usize
+pub fn index_length(bytes: &[u8]) -> usize
     ensures is { result ≡ index_length bytes.now }
     ensures within { result ≤ length bytes.now }
 {

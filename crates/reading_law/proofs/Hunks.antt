@@ -77,23 +77,23 @@ pub record AreOwn (text : List ℕ) (own : List (List ℕ)) : Type 0 where
   pub whole : AllByRecursion IsLine own
   pub is : text ≡ joined own
 
-abbrev open_text : List ℕ
+abbrev pub open_text : List ℕ
 open_text = 120 ∷ []
 
 open-lines : lines open_text ≡ open_text ∷ []
 open-lines = line-open open_text (omega arith, (λ e. cc, tt))
 
-own-of : (text : List ℕ) (own : List (List ℕ)) → lines (text ++ open_text) ≡ own ++ lines open_text → AreOwn text own
+pub own-of : (text : List ℕ) (own : List (List ℕ)) → lines (text ++ open_text) ≡ own ++ lines open_text → AreOwn text own
 own-of text own e =
     let parts : lines (text ++ open_text) ≡ own ++ open_text ∷ [] = e ∙ ap (λ (ls : List (List ℕ)). own ++ ls) open-lines in
     let bytes : text ++ open_text ≡ joined own ++ open_text = sym (lines-joined (text ++ open_text)) ∙ ap joined parts ∙ flat_map-append (λ (l : List ℕ). l) own (open_text ∷ []) in
     record { whole = front-whole own open_text [] (subst ArePieces parts (lines-pieces (text ++ open_text))); is = append_cancel_right text (joined own) open_text bytes }
 
-open-silent : after_backslash (lines open_text) ≡ None
+pub open-silent : after_backslash (lines open_text) ≡ None
 unfolding after
 open-silent = ap after_backslash open-lines
 
-open-stops : begins_part true (lines open_text) ≡ false
+pub open-stops : begins_part true (lines open_text) ≡ false
 open-stops = ap (begins_part true) open-lines
 
 -- ---- one hunk in its form
@@ -117,7 +117,7 @@ IsQuietAs Context ls = (k : Bool) → begins_part k ls ≡ false
 IsQuietAs Normal ls = Unit {0}
 IsQuietAs Ed ls = Unit {0}
 
-unified-least : (least : ℕ) (own : List (List ℕ)) (h : PlainHunk) → least ≤ h.old_start → unified.SpellsHunk 0 own h → unified.SpellsHunk least own h
+pub unified-least : (least : ℕ) (own : List (List ℕ)) (h : PlainHunk) → least ≤ h.old_start → unified.SpellsHunk 0 own h → unified.SpellsHunk least own h
 unified-least least [] h le s = absurd s
 unified-least least (line ∷ rest) h le s = (s.0, record { old_begins = s.1.old_begins; new_begins = s.1.new_begins; fits = s.1.fits; counts = s.1.counts; order = le }, s.2)
 
@@ -125,7 +125,7 @@ normal-least : (least : ℕ) (own : List (List ℕ)) (h : PlainHunk) → least �
 normal-least least [] h le s = absurd s
 normal-least least (line ∷ rest) h le s = (s.0, s.1, s.2, s.3, s.4, record { fits = s.5.fits; order = le }, s.6)
 
-context-least : (least : ℕ) (own behind : List (List ℕ)) (h : PlainHunk) → least ≤ h.old_start → context.SpellsHunk 0 own behind h → context.SpellsHunk least own behind h
+pub context-least : (least : ℕ) (own behind : List (List ℕ)) (h : PlainHunk) → least ≤ h.old_start → context.SpellsHunk 0 own behind h → context.SpellsHunk least own behind h
 context-least least own behind h le s = record {
   stars = s.stars;
   old_line = s.old_line;
@@ -215,20 +215,20 @@ pub record IsBody (form : Form) (least : ℕ) (hs : List PlainHunk) (body : List
   pub chain : ChainAs form least body [] (map (as_shown form) hs)
   pub quiet : IsQuietAs form body
 
-quiet-first : (form : Form) (least : ℕ) (own behind more : List (List ℕ)) (h : PlainHunk) → SpellsAs form least own behind h → IsQuietAs form (own ++ more)
+pub quiet-first : (form : Form) (least : ℕ) (own behind more : List (List ℕ)) (h : PlainHunk) → SpellsAs form least own behind h → IsQuietAs form (own ++ more)
 quiet-first Unified least own behind more h s = tt
 quiet-first Context least own behind more h s = stars-quiet (own ++ more) (context_pieces.hunk_opens least own behind more h s)
 quiet-first Normal least own behind more h s = tt
 quiet-first Ed least own behind more h s = tt
 
-quiet-none : (form : Form) → IsQuietAs form []
+pub quiet-none : (form : Form) → IsQuietAs form []
 quiet-none Unified = tt
 quiet-none Context = λ k. refl
 quiet-none Normal = tt
 quiet-none Ed = tt
 
 -- a hunk starts where it does also as its form shows it
-chain-same : (form : Form) (h : PlainHunk) (hs : List PlainHunk) (more : List (List ℕ)) → ChainAs form h.old_start more [] (map (as_shown form) hs) → ChainAs form (as_shown form h).old_start more [] (map (as_shown form) hs)
+pub chain-same : (form : Form) (h : PlainHunk) (hs : List PlainHunk) (more : List (List ℕ)) → ChainAs form h.old_start more [] (map (as_shown form) hs) → ChainAs form (as_shown form h).old_start more [] (map (as_shown form) hs)
 chain-same Unified h hs more c = c
 chain-same Context h hs more c = c
 chain-same Normal h hs more c = c

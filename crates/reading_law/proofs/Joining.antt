@@ -152,21 +152,22 @@ run-joined (x ∷ rest) others e run behind = by (is_extended x) refl (λ k. run
 record ShowsGit (others : List (List ℕ)) : Type 0 where
   run : extended_run others ≡ []
   behind : behind_run others ≡ others
-  leads_none : leads others ≡ false
+  leads_none : (run : List (List ℕ)) → leads run others ≡ false
   text : begins_binary others ≡ false
 
 git-shows : (others : List (List ℕ)) → begin_with_git others ≡ true → unified_hunks.begins_hunk others ≡ false → ShowsGit others
-git-shows [] h hunk = record { run = run-none; behind = behind-none; leads_none = refl; text = refl }
+git-shows [] h hunk = record { run = run-none; behind = behind-none; leads_none = λ run. refl; text = refl }
 git-shows (line ∷ more) h hunk =
     let s = solid-shows line more (git-solid line h) in
-    record { run = s.run; behind = s.behind; leads_none = ap (λ v. v || has_names (line ∷ more)) hunk ∙ s.names; text = s.text }
+    record { run = s.run; behind = s.behind; leads_none = λ run. ap (λ v. v || has_names run (line ∷ more)) hunk ∙ s.names run; text = s.text }
 
-bare-by : (line : List ℕ) (rest others : List (List ℕ)) → (extended_run (rest ++ others) ≡ extended_run (rest ++ [])) → leads (behind_run (rest ++ others)) ≡ false → begins_bare (line ∷ (rest ++ [])) ≡ true → begins_bare (line ∷ (rest ++ others)) ≡ true
+bare-by : (line : List ℕ) (rest others : List (List ℕ)) → (extended_run (rest ++ others) ≡ extended_run (rest ++ [])) → leads (extended_run (rest ++ others)) (behind_run (rest ++ others)) ≡ false → begins_bare (line ∷ (rest ++ [])) ≡ true
+    → begins_bare (line ∷ (rest ++ others)) ≡ true
 unfolding begins_bare
 bare-by line rest others run names h =
     let git : is_git_line line ≡ true = and_left _ _ h in
-    let asks : asks_alone (extended_run (rest ++ [])) ≡ true = and_right (not (leads (behind_run (rest ++ [])))) _ (and_right (is_git_line line) _ h) in
-    ap (λ v. v && (not (leads (behind_run (rest ++ others))) && asks_alone (extended_run (rest ++ others)))) git
+    let asks : asks_alone (extended_run (rest ++ [])) ≡ true = and_right (not (leads (extended_run (rest ++ [])) (behind_run (rest ++ [])))) _ (and_right (is_git_line line) _ h) in
+    ap (λ v. v && (not (leads (extended_run (rest ++ others)) (behind_run (rest ++ others))) && asks_alone (extended_run (rest ++ others)))) git
     ∙ ap (λ v. not v && asks_alone (extended_run (rest ++ others))) names
     ∙ ap asks_alone run
     ∙ asks
@@ -181,7 +182,7 @@ bare-joined (line ∷ rest) others e git hunk h =
     let s = git-shows others git hunk in
     let alone : rest ≡ extended_run (rest ++ []) = run-tail line rest (extended_run (rest ++ [])) e in
     let more = run-joined rest others alone s.run s.behind in
-    (bare-by line rest others (more.0 ∙ alone) (ap leads more.1 ∙ s.leads_none) h, ap (λ ls. line ∷ ls) (sym more.0), ap begins_binary more.1 ∙ s.text)
+    (bare-by line rest others (more.0 ∙ alone) (ap (leads (extended_run (rest ++ others))) more.1 ∙ s.leads_none (extended_run (rest ++ others))) h, ap (λ ls. line ∷ ls) (sym more.0), ap begins_binary more.1 ∙ s.text)
 
 -- ---- both
 

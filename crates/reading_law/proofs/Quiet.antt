@@ -13,6 +13,7 @@ use Rattle.normal_form.specs.Hunks.{begins_marked}
 use Rattle.ed_form.specs.Commands.{is_command}
 use Rattle.patch_header.specs.Content.{is_dot, has_dot}
 use Rattle.patch_header.specs.GitHeaders.{starts, is_git_line, is_extended, extended_run, behind_run, asks_alone, has_new_name, has_names, leads, begins_bare}
+use Rattle.patch_header.specs.NamesFit.{old_fits, new_fits}
 use Rattle.patch_header.specs.Openings.{admits, asks_dot, opens, begins_binary, is_passed_over, stops_binary, stops_bare, stop_at}
 use Rattle.patch_header.specs.Steps.{AreQuiet}
 use Rattle.patch_header.specs.declared.ways.Ways.{Ways}
@@ -23,10 +24,10 @@ pub record LookAlike (rest other : List (List ℕ)) : Type 0 where
   pub marked : begins_marked rest ≡ begins_marked other
   pub ranged : begins_old rest ≡ begins_old other
   pub hunk : unified.begins_hunk rest ≡ unified.begins_hunk other
-  pub new_name : has_new_name rest ≡ has_new_name other
-  pub names : has_names rest ≡ has_names other
+  pub new_name : (run : List (List ℕ)) → has_new_name run rest ≡ has_new_name run other
+  pub names : (run : List (List ℕ)) → has_names run rest ≡ has_names run other
   pub run : extended_run rest ≡ extended_run other
-  pub behind : leads (behind_run rest) ≡ leads (behind_run other)
+  pub behind : (run : List (List ℕ)) → leads run (behind_run rest) ≡ leads run (behind_run other)
   pub text : begins_binary rest ≡ begins_binary other
   pub told : begins_binary (behind_run rest) ≡ begins_binary (behind_run other)
 
@@ -43,36 +44,36 @@ module _ (rest other : List (List ℕ)) (same : LookAlike rest other) where
   more-hunk [] = same.hunk
   more-hunk (m ∷ more) = refl
 
-  more-new : (more : List (List ℕ)) → has_new_name (more ++ rest) ≡ has_new_name (more ++ other)
-  more-new [] = same.new_name
-  more-new (m ∷ more) = ap (λ v. starts (codes "+++ ") m && v) (more-hunk more)
+  more-new : (run more : List (List ℕ)) → has_new_name run (more ++ rest) ≡ has_new_name run (more ++ other)
+  more-new run [] = same.new_name run
+  more-new run (m ∷ more) = ap (λ v. starts (codes "+++ ") m && (new_fits run m && v)) (more-hunk more)
 
-  more-names : (more : List (List ℕ)) → has_names (more ++ rest) ≡ has_names (more ++ other)
-  more-names [] = same.names
-  more-names (m ∷ more) = ap (λ v. starts (codes "--- ") m && v) (more-new more)
+  more-names : (run more : List (List ℕ)) → has_names run (more ++ rest) ≡ has_names run (more ++ other)
+  more-names run [] = same.names run
+  more-names run (m ∷ more) = ap (λ v. starts (codes "--- ") m && (old_fits run m && v)) (more-new run more)
 
-  more-leads : (more : List (List ℕ)) → leads (more ++ rest) ≡ leads (more ++ other)
-  more-leads more = ap (λ v. v || has_names (more ++ rest)) (more-hunk more) ∙ ap (λ v. unified.begins_hunk (more ++ other) || v) (more-names more)
+  more-leads : (run more : List (List ℕ)) → leads run (more ++ rest) ≡ leads run (more ++ other)
+  more-leads run more = ap (λ v. v || has_names run (more ++ rest)) (more-hunk more) ∙ ap (λ v. unified.begins_hunk (more ++ other) || v) (more-names run more)
 
   more-run : (more : List (List ℕ)) → extended_run (more ++ rest) ≡ extended_run (more ++ other)
   unfolding extended_run
   more-run [] = same.run
   more-run (m ∷ more) = ap (λ ls. cond (is_extended m) (m ∷ ls) []) (more-run more)
 
-  more-behind : (more : List (List ℕ)) → leads (behind_run (more ++ rest)) ≡ leads (behind_run (more ++ other))
+  more-behind : (run more : List (List ℕ)) → leads run (behind_run (more ++ rest)) ≡ leads run (behind_run (more ++ other))
   unfolding behind_run
-  more-behind [] = same.behind
-  more-behind (m ∷ more) = by (is_extended m) (more-behind more)
+  more-behind run [] = same.behind run
+  more-behind run (m ∷ more) = by (is_extended m) (more-behind run more)
     where
-      by : (v : Bool) → leads (behind_run (more ++ rest)) ≡ leads (behind_run (more ++ other)) → leads (cond v (behind_run (more ++ rest)) (m ∷ (more ++ rest))) ≡ leads (cond v (behind_run (more ++ other)) (m ∷ (more ++ other)))
+      by : (v : Bool) → leads run (behind_run (more ++ rest)) ≡ leads run (behind_run (more ++ other)) → leads run (cond v (behind_run (more ++ rest)) (m ∷ (more ++ rest))) ≡ leads run (cond v (behind_run (more ++ other)) (m ∷ (more ++ other)))
       by true e = e
-      by false e = more-leads (m ∷ more)
+      by false e = more-leads run (m ∷ more)
 
   more-bare : (line : List ℕ) (more : List (List ℕ)) → begins_bare (line ∷ (more ++ rest)) ≡ begins_bare (line ∷ (more ++ other))
   unfolding begins_bare
   more-bare line more =
-      ap (λ v. is_git_line line && (not v && asks_alone (extended_run (more ++ rest)))) (more-behind more)
-      ∙ ap (λ ls. is_git_line line && (not (leads (behind_run (more ++ other))) && asks_alone ls)) (more-run more)
+      ap (λ v. is_git_line line && (not v && asks_alone (extended_run (more ++ rest)))) (more-behind (extended_run (more ++ rest)) more)
+      ∙ ap (λ ls. is_git_line line && (not (leads ls (behind_run (more ++ other))) && asks_alone ls)) (more-run more)
 
   more-text : (more : List (List ℕ)) → begins_binary (more ++ rest) ≡ begins_binary (more ++ other)
   more-text [] = same.text

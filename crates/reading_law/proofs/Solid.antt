@@ -11,6 +11,7 @@ use Rattle.context_form.specs.Openings as context
 use Rattle.normal_form.specs.Hunks.{begins_marked}
 use Rattle.patch_header.specs.Content.{content, is_binary}
 use Rattle.patch_header.specs.GitHeaders.{starts, is_git_line, is_mode_line, is_name_line, is_index_line, is_extended, extended_run, behind_run, has_new_name, has_names, leads}
+use Rattle.patch_header.specs.NamesFit.{old_fits, new_fits}
 use Rattle.patch_header.specs.Openings.{begins, begins_binary}
 use Rattle.patch_header.proofs.Fronts.{front, and_left, and_right, after-front, unified-front, context-front, range-front, normal-range, ed-range, content-front, binary-front}
 use Rattle.patch_header.proofs.GitWords.{starts-words}
@@ -132,16 +133,16 @@ git-solid line h = let w = (starts-words (codes "diff --git ") line).0 h in git-
 pub record ShowsSolid (ls : List (List ℕ)) : Type 0 where
   pub run : extended_run ls ≡ []
   pub behind : behind_run ls ≡ ls
-  pub new_name : has_new_name ls ≡ false
-  pub names : has_names ls ≡ false
+  pub new_name : (run : List (List ℕ)) → has_new_name run ls ≡ false
+  pub names : (run : List (List ℕ)) → has_names run ls ≡ false
   pub text : begins_binary ls ≡ false
 
 pub solid-shows : (line : List ℕ) (more : List (List ℕ)) → IsSolid line → ShowsSolid (line ∷ more)
 solid-shows line more s = record {
   run = run-stops line more s.extended;
   behind = behind-stops line more s.extended;
-  new_name = ap (λ v. v && unified.begins_hunk more) s.plus;
-  names = ap (λ v. v && has_new_name more) s.minus;
+  new_name = λ run. ap (λ v. v && (new_fits run line && unified.begins_hunk more)) s.plus;
+  names = λ run. ap (λ v. v && (old_fits run line && has_new_name run more)) s.minus;
   text = s.text;
 }
 
@@ -151,10 +152,14 @@ solid-alike rest other marked ranged hunk s t = record {
   marked = marked;
   ranged = ranged;
   hunk = hunk;
-  new_name = s.new_name ∙ sym t.new_name;
-  names = s.names ∙ sym t.names;
+  new_name = λ run. s.new_name run ∙ sym (t.new_name run);
+  names = λ run. s.names run ∙ sym (t.names run);
   run = s.run ∙ sym t.run;
-  behind = ap leads s.behind ∙ ap (λ v. v || has_names rest) hunk ∙ ap (λ v. unified.begins_hunk other || v) (s.names ∙ sym t.names) ∙ sym (ap leads t.behind);
+  behind = λ run.
+      ap (leads run) s.behind
+      ∙ ap (λ v. v || has_names run rest) hunk
+      ∙ ap (λ v. unified.begins_hunk other || v) (s.names run ∙ sym (t.names run))
+      ∙ sym (ap (leads run) t.behind);
   text = s.text ∙ sym t.text;
   told = ap begins_binary s.behind ∙ s.text ∙ sym t.text ∙ sym (ap begins_binary t.behind);
 }

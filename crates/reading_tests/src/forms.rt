@@ -34,8 +34,9 @@ fn script(alloc: Global, text: &[u8]) -> Result<String, AllocError> {
 const UNIFIED: &str =
     "Ok(Hunks { items: [Hunk { old_start: 3, new_start: 4, body: [HunkLine { mark: Keep, span: Span { start: 15, end: 17 } }, HunkLine { mark: Drop, span: Span { start: 18, end: 20 } }] }], spans: [Span { start: 0, end: 20 }], end: 20, next: 4 })";
 
+// Its numbers have blanks around them.
 const CONTEXT: &str =
-    "Ok(Hunks { items: [Hunk { old_start: 3, new_start: 4, body: [HunkLine { mark: Drop, span: Span { start: 29, end: 31 } }, HunkLine { mark: Add, span: Span { start: 44, end: 46 } }] }], spans: [Span { start: 0, end: 46 }], end: 46, next: 6 })";
+    "Ok(Hunks { items: [Hunk { old_start: 3, new_start: 4, body: [HunkLine { mark: Drop, span: Span { start: 30, end: 32 } }, HunkLine { mark: Add, span: Span { start: 46, end: 48 } }] }], spans: [Span { start: 0, end: 48 }], end: 48, next: 6 })";
 
 const NORMAL: &str =
     "Ok(Hunks { items: [Hunk { old_start: 3, new_start: 4, body: [HunkLine { mark: Drop, span: Span { start: 6, end: 8 } }, HunkLine { mark: Add, span: Span { start: 14, end: 16 } }] }], spans: [Span { start: 0, end: 16 }], end: 16, next: 5 })";
@@ -52,7 +53,7 @@ fn forms_are_read(rt: HostRuntime) {
         is_told(
             context(
                 alloc,
-                b"***************\n*** 3 ****\n! a\n--- 4 ----\n! b\nx\n"
+                b"***************\n***  3 ****\n! a\n--- 4\t ----\n! b\nx\n"
             ),
             CONTEXT
         )

@@ -61,6 +61,15 @@ const ROWS: &[&str] = &[
     "-=--- x\ndiff --git a/f b/f\nindex 1..2 100644\n@@ -1 +1 @@\n-a\n+b\n=Unified 4 1; [x] [] [] []; Unknown, Unknown; Plain false [] []",
     "git=diff --git a/f b/f\nnew file mode 100644\n@@ -0,0 +1 @@\n+a\n=Unified 3 3; [] [] [b/f] []; Unknown, Unknown; New false [] []; [] [100644]",
     "git=diff --git a/x b/y\nsimilarity index 90%\nrename from x\nrename to y\n@@ -1 +1 @@\n-a\n+b\n=Unified 5 5; [] [] [] []; Unknown, Unknown; Rename false [x] [y]",
+    // Lines of other names than a rename or a copy has begin a file patch of their own; another git header leads any.
+    "git=diff --git a/x b/y\nsimilarity index 90%\nrename from x\nrename to y\n--- a/x\n+++ b/z\n@@ -1 +1 @@\n-a\n+b\n=Unified 1 1; [] [] [] []; Unknown, Unknown; Rename true [x] [y]",
+    "git=diff --git a/f b/f\nold mode 100644\nnew mode 100755\n--- a/g\n+++ b/f\n@@ -1 +1 @@\n-a\n+b\n=Unified 6 4; [a/g] [b/f] [] []; Unknown, Unknown; Plain false [] []; [100644] [100755]",
+    "git=diff --git a/f b/f\nindex 1..2\n--- a/g\n+++ b/g\n@@ -1 +1 @@\n-a\n+b\n=Unified 5 3; [a/g] [b/g] [] []; Unknown, Unknown; Plain false [] []",
+    // A name may be without its prefix or up to a tab, and `/dev/null` is any name.
+    "git=diff --git x y\nrename from d/x\nrename to d/y\n--- my/d/x\n+++ d/y\t\n@@ -1 +1 @@\n-a\n+b\n=Unified 6 4; [my/d/x] [d/y] [] []; Unknown, Unknown; Rename false [d/x] [d/y]",
+    "git=diff --git \"a/x\\ty\" \"b/x\\tz\"\nrename from \"x\\ty\"\nrename to \"x\\tz\"\n--- \"c/x\\ty\"\n+++ \"b/x\\tz\"\n@@ -1 +1 @@\n-a\n+b\n=Unified 6 4; [\"c/x\\ty\"] [\"b/x\\tz\"] [] []; Unknown, Unknown; Rename false [\"x\\ty\"] [\"x\\tz\"]",
+    "git=diff --git a/f b/f\nnew file mode 100644\n--- /dev/null\n+++ b/f\n@@ -0,0 +1 @@\n+a\n=Unified 5 3; [/dev/null] [b/f] [] []; Unknown, Unknown; New false [] []; [] [100644]",
+    "git=diff --git f\nnew file mode 100644\n--- a/f\n+++ b/g\n@@ -0,0 +1 @@\n+a\n=Unified 5 3; [a/f] [b/g] [] []; Unknown, Unknown; New false [] []; [] [100644]",
     // Without a hunk directly behind them the lines of both names lead nothing.
     "git=diff --git a/f b/f\nnew mode 100755\n--- a/f\n+++ b/f\n\n@@ -1 +1 @@\n=Unified 6 3; [a/f] [b/f] [] []; Unknown, Unknown; Plain false [] []",
     // Both modes alone are a file patch, one of them is ordinary text.

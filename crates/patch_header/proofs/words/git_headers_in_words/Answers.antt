@@ -1,4 +1,4 @@
-use Rattle.patch_header.proofs.GitWords.{starts-words, run-words, all-words, new-words, deleted-words, rename-words, copy-words, modes-words, contents-words, led-words, halves-words}
+use Rattle.patch_header.proofs.GitWords.{starts-words, run-words, all-words, new-words, deleted-words, rename-words, copy-words, modes-words, old-apart-words, new-apart-words, unnamed-words, no-file-words, contents-words, led-words, halves-words}
 use Rattle.patch_header.proofs.words.git_headers_in_words.Goals as goal
 
 pub returns-clause-starts : goal.returns-clause-starts
@@ -33,3 +33,15 @@ returns-clause-led c = led-words
 
 pub returns-clause-halves : goal.returns-clause-halves
 returns-clause-halves c = halves-words
+
+pub returns-clause-old_apart : goal.returns-clause-old_apart
+returns-clause-old_apart c = old-apart-words
+
+pub returns-clause-new_apart : goal.returns-clause-new_apart
+returns-clause-new_apart c = new-apart-words
+
+pub returns-clause-unnamed : goal.returns-clause-unnamed
+returns-clause-unnamed c = unnamed-words
+
+pub returns-clause-no_file : goal.returns-clause-no_file
+returns-clause-no_file c = no-file-words
