@@ -34,7 +34,7 @@ use Rattle.context_form.proofs.Canonical.{lines_of, lines_by, line_lines, part_l
 
 -- ---- the dropped lines first
 -- ---- no rule is broken
-starts-back : (start : ℕ) (side : List (List ℕ)) → starts_at_zero start side ≡ false → start ≡ 0 → length side ≡ 0
+pub starts-back : (start : ℕ) (side : List (List ℕ)) → starts_at_zero start side ≡ false → start ≡ 0 → length side ≡ 0
 starts-back start side e none_before = by (eqb (length side) 0) refl
   where
     by : (b : Bool) → eqb (length side) 0 ≡ b → length side ≡ 0
@@ -52,7 +52,7 @@ none-begins may_keep (line ∷ rest) e = by (mark_at Reversed line) e
     by None h = refl
     by (Some m) h = absurd cc
 
-not-there : (single : Bool) (start n : ℕ) (olds : List Marked) (rest : List (List ℕ)) → begins_part true rest ≡ false → is_there (stated_as single start n) olds rest ≡ false
+pub not-there : (single : Bool) (start n : ℕ) (olds : List Marked) (rest : List (List ℕ)) → begins_part true rest ≡ false → is_there (stated_as single start n) olds rest ≡ false
 not-there true start n olds rest e = by (eqb start 0) (none-begins (not (drops_alone olds)) rest e)
   where
     by : (b : Bool) → begins_part (not (drops_alone olds)) rest ≡ false → cond b false (begins_part (not (drops_alone olds)) rest) ≡ false
@@ -63,7 +63,7 @@ not-there false start n olds rest e = e
 -- ---- a new part that is written
 
 -- the first of its lines, with the blank behind its mark
-record FullFirst (news : List (List ℕ)) (part : List Marked) : Type 0 where
+pub record FullFirst (news : List (List ℕ)) (part : List Marked) : Type 0 where
   m : Marked
   others : List Marked
   is : part ≡ m ∷ others
@@ -77,7 +77,7 @@ first-line : (ended changed : Bool) (m : Marked) (rest : List (List ℕ)) (other
 first-line true changed m rest others on = record { m = m; others = others; is = refl; changed = changed; bytes = m.line; more = rest; parts = refl; on = on }
 first-line false changed m rest others on = record { m = m; others = others; is = refl; changed = changed; bytes = m.line ++ 10 ∷ []; more = no_newline ∷ rest; parts = refl; on = on }
 
-full-first : (changed : Bool) (body : List Marked) → 0 < length (part_lines Reversed changed body) → FullFirst (part_lines Reversed changed body) (part_of Reversed body)
+pub full-first : (changed : Bool) (body : List Marked) → 0 < length (part_lines Reversed changed body) → FullFirst (part_lines Reversed changed body) (part_of Reversed body)
 full-first changed [] some = absurd (omega (arith, some))
 full-first changed (m ∷ body) some = by (is_on_side Reversed m.mark) refl some (λ h. full-first (mixed_behind changed m.mark body) body h)
   where
@@ -117,7 +117,7 @@ there-part true line start n olds rest r some there = by (eqb start 0) refl
     by false is = there (not (drops_alone olds)) (back (drops_alone olds))
 there-part false line start n olds rest r some there = there true (λ h. absurd cc)
 
-begins-new : (single : Bool) (line : List ℕ) (start : ℕ) (olds news : List (List ℕ)) (sorted : List Marked) → SpellsRange Reversed line single start (length (part_of Reversed sorted)) → FullFirst news (part_of Reversed sorted)
+pub begins-new : (single : Bool) (line : List ℕ) (start : ℕ) (olds news : List (List ℕ)) (sorted : List Marked) → SpellsRange Reversed line single start (length (part_of Reversed sorted)) → FullFirst news (part_of Reversed sorted)
     → is_new (stated_as single start (length (part_of Reversed sorted))) (told_by Forward olds sorted) news ≡ true
 begins-new single line start olds news sorted r f =
     let st = stated_as single start (length (part_of Reversed sorted)) in
@@ -127,13 +127,13 @@ begins-new single line start olds news sorted r f =
 
 -- ---- whatever is spelled begins with the hunk
 
-begins-with : (h : PlainHunk) (own rest : List (List ℕ)) (number next : ℕ) (hs : List PlainHunk) (behind : List (List ℕ)) → SpellsHunk 0 own rest h → after_backslash rest ≡ None → IsPiece number (own ++ rest) hs next behind → (others : List PlainHunk) × (hs ≡ h ∷ others)
+pub begins-with : (h : PlainHunk) (own rest : List (List ℕ)) (number next : ℕ) (hs : List PlainHunk) (behind : List (List ℕ)) → SpellsHunk 0 own rest h → after_backslash rest ≡ None → IsPiece number (own ++ rest) hs next behind → (others : List PlainHunk) × (hs ≡ h ∷ others)
 begins-with h own rest number next hs behind s quiet piece = reads_first begins_hunk hunk_at SpellsHunk grammar h own rest number (hs, ahead next behind) s quiet (reading_again number (own ++ rest) hs next behind piece)
 
 pub on-length : (side : Side) (body : List Marked) → length (lines_on side body) ≡ length (part_of side body)
 on-length side body = length-map (part_of side body) (λ (m : Marked). m.line)
 
-some-lines : (body : List Marked) → eqb (length body) 0 ≡ false → 0 < length (part_of Forward body) + length (part_of Reversed body)
+pub some-lines : (body : List Marked) → eqb (length body) 0 ≡ false → 0 < length (part_of Forward body) + length (part_of Reversed body)
 some-lines [] e = absurd cc
 some-lines (m ∷ body) e = by m.mark
   where
@@ -142,11 +142,11 @@ some-lines (m ∷ body) e = by m.mark
     by its.Drop = omega arith
     by its.Add = omega arith
 
-piece-some : (piece : List (List ℕ)) (part : List Marked) → SpellsPart piece part → 0 < length part → 0 < length piece
+pub piece-some : (piece : List (List ℕ)) (part : List Marked) → SpellsPart piece part → 0 < length part → 0 < length piece
 piece-some piece [] s some = absurd (omega (arith, some))
 piece-some piece (m ∷ part) s some = part-some piece m part s
 
-some-written : (old new : List (List ℕ)) (olds news : List Marked) → SpellsPart old olds → SpellsPart new news → 0 < length olds + length news → 0 < length (old ++ new)
+pub some-written : (old new : List (List ℕ)) (olds news : List Marked) → SpellsPart old olds → SpellsPart new news → 0 < length olds + length news → 0 < length (old ++ new)
 some-written old new [] news s t some = let one = piece-some new news t (omega (arith, some)) in omega (arith, one, length-append old new)
 some-written old new (o ∷ olds) news s t some = let one = part-some old o olds s in omega (arith, one, length-append old new)
 

@@ -3,6 +3,7 @@ use Rattle.std.proofs.Common.{◌≡◌, ◌⊎◌, ℕ, ◌+◌, ◌-◌, ◌<�
 use Rattle.std.specs.Prelude.{replicate}
 use Rattle.std.specs.List.{flat_map}
 use Rattle.std.proofs.lemmas.Bool.{eqb-true, eqb-false, ltb-true, ltb-false, or_from}
+use Rattle.std.proofs.lemmas.List.{append-nil}
 use Rattle.std.proofs.lemmas.List.Concat.{flat_map-cons, flat_map-append}
 use Rattle.line_list.specs.Lines.{lines, IsLine}
 use Rattle.num_text.specs.Numbers.{decimal}
@@ -24,7 +25,7 @@ use Rattle.context_form.specs.Openings.{is_stars}
 use Rattle.context_form.specs.Ranges.{before_range, behind_range}
 use Rattle.context_form.specs.Merging.{part_of}
 use Rattle.context_form.specs.Parts.{begins_new}
-use Rattle.context_form.specs.Grammar.{mark_byte, Shows, SpellsLine, SpellsPart, is_change, has_change, AreKept, SpellsSide, SpellsRange}
+use Rattle.context_form.specs.Grammar.{mark_byte, Shows, SpellsLine, SpellsPart, is_change, has_change, AreKept, SpellsSide, IsSpaced, SpellsRange}
 use Rattle.context_form.specs.Canonical.{stars_text, range_line_text, line_text, stretch_has, mixed, mixed_behind, part_text, canonical}
 use Rattle.context_form.proofs.JoinLemmas.{part-some, side-written, side-left-out}
 
@@ -93,14 +94,14 @@ newline-no-change : is_change no_newline ≡ false
 unfolding after
 newline-no-change = refl
 
-lines-no-change : (m : Marked) → has_change (line_lines false m) ≡ false
+pub lines-no-change : (m : Marked) → has_change (line_lines false m) ≡ false
 lines-no-change m = by (ends_line m.line)
   where
     by : (b : Bool) → has_change (lines_by b false m) ≡ false
     by true = rw (line-no-change m.mark m.line) refl
     by false = rw (line-no-change m.mark (m.line ++ 10 ∷ []), newline-no-change) refl
 
-has-both : (xs ys : List (List ℕ)) → has_change xs ≡ false → has_change ys ≡ false → has_change (xs ++ ys) ≡ false
+pub has-both : (xs ys : List (List ℕ)) → has_change xs ≡ false → has_change ys ≡ false → has_change (xs ++ ys) ≡ false
 has-both [] ys e f = f
 has-both (x ∷ xs) ys e f = by (is_change x) refl e (λ k. has-both xs ys k f)
   where
@@ -124,7 +125,7 @@ none-mixed side (m ∷ body) e = by (is_on_side side m.mark) refl e (λ k. none-
     by true is h more = absurd cc
     by false is h more = rw (off side m.mark is, is) (more h)
 
-and-false : (side : Side) (body : List Marked) → stretch_has side body ≡ false → mixed body ≡ false
+pub and-false : (side : Side) (body : List Marked) → stretch_has side body ≡ false → mixed body ≡ false
 and-false Forward body e = rw e refl
 and-false Reversed body e = by (stretch_has Forward body)
   where
@@ -176,15 +177,30 @@ many-spelled start n many begins = by (eqb start 0) refl
     by true is = absurd (omega (arith, many, begins (eqb-true start 0 is)))
     by false is = let ne = eqb-false start 0 is in omega (arith, ne)
 
+-- a number as it is written, and with the blank in front of the last stars or dashes
+bare : (n : ℕ) → IsSpaced (decimal n) n
+bare n = record { front = []; digits = decimal n; behind = []; parts = sym (append-nil (decimal n)); before = tt; numeral = decimal-numeral n; after = tt }
+
+blank-behind : (n : ℕ) → IsSpaced (decimal n ++ 32 ∷ []) n
+blank-behind n = record { front = []; digits = decimal n; behind = 32 ∷ []; parts = refl; before = tt; numeral = decimal-numeral n; after = (refl, tt) }
+
 pub range-spelled : (side : Side) (start n : ℕ) → (start ≡ 0 → n ≡ 0) → SpellsRange side (range_line_text side start n) (not (ltb 1 n)) start n
 range-spelled side start n begins = by (ltb 1 n) refl
   where
-    by : (b : Bool) → ltb 1 n ≡ b → SpellsRange side (before_range side ++ (cond b (decimal start ++ 44 ∷ decimal (start + n - 1)) (decimal start) ++ (behind_range side ++ 10 ∷ []))) (not b) start n
+    behind-blank : (x : List ℕ) → before_range side ++ (x ++ ((32 ∷ behind_range side) ++ 10 ∷ [])) ≡ before_range side ++ ((x ++ 32 ∷ []) ++ (behind_range side ++ 10 ∷ []))
+    behind-blank x = ap (λ (l : List ℕ). before_range side ++ l) (sym (append_assoc x (32 ∷ []) (behind_range side ++ 10 ∷ [])))
+
+    by : (b : Bool) → ltb 1 n ≡ b → SpellsRange side (before_range side ++ (cond b (decimal start ++ 44 ∷ decimal (start + n - 1)) (decimal start) ++ ((32 ∷ behind_range side) ++ 10 ∷ []))) (not b) start n
     by true is =
         let many = ltb-true 1 n is in
         let some = many-spelled start n many begins in
-        record { text = decimal start ++ 44 ∷ decimal (start + n - 1); rest = 10 ∷ []; parts = refl; numbers = (decimal start, decimal (start + n - 1), start + n - 1, refl, decimal-numeral start, decimal-numeral (start + n - 1), some, omega (arith, many), omega (arith, many, some)) }
-    by false is = record { text = decimal start; rest = 10 ∷ []; parts = refl; numbers = (decimal-numeral start, omega (arith, ltb-false 1 n is), begins) }
+        record {
+          text = decimal start ++ 44 ∷ (decimal (start + n - 1) ++ 32 ∷ []);
+          rest = 10 ∷ [];
+          parts = behind-blank (decimal start ++ 44 ∷ decimal (start + n - 1)) ∙ ap (λ (x : List ℕ). before_range side ++ (x ++ (behind_range side ++ 10 ∷ []))) (append_assoc (decimal start) (44 ∷ decimal (start + n - 1)) (32 ∷ []));
+          numbers = (decimal start, decimal (start + n - 1) ++ 32 ∷ [], start + n - 1, refl, bare start, blank-behind (start + n - 1), some, omega (arith, many), omega (arith, many, some));
+        }
+    by false is = record { text = decimal start ++ 32 ∷ []; rest = 10 ∷ []; parts = behind-blank (decimal start); numbers = (blank-behind start, omega (arith, ltb-false 1 n is), begins) }
 
 pub stars-are : is_stars stars_text ≡ true
 unfolding after
@@ -202,12 +218,12 @@ before-clean : (side : Side) → NoFeed (before_range side)
 before-clean Forward = clean (before_range Forward) refl
 before-clean Reversed = clean (before_range Reversed) refl
 
-behind-clean : (side : Side) → NoFeed (behind_range side)
-behind-clean Forward = clean (behind_range Forward) refl
-behind-clean Reversed = clean (behind_range Reversed) refl
+behind-clean : (side : Side) → NoFeed (32 ∷ behind_range side)
+behind-clean Forward = clean (32 ∷ behind_range Forward) refl
+behind-clean Reversed = clean (32 ∷ behind_range Reversed) refl
 
-range-line : (side : Side) (start n : ℕ) → IsLine (range_line_text side start n)
-range-line side start n = line-prefix (before_range side) _ (before-clean side) (line-prefix (span_text start n) _ (span-clean start n) (line-prefix (behind_range side) (10 ∷ []) (behind-clean side) refl))
+pub range-line : (side : Side) (start n : ℕ) → IsLine (range_line_text side start n)
+range-line side start n = line-prefix (before_range side) _ (before-clean side) (line-prefix (span_text start n) _ (span-clean start n) (line-prefix (32 ∷ behind_range side) (10 ∷ []) (behind-clean side) refl))
 
 stars-line : IsLine stars_text
 stars-line = line-prefix (replicate 15 42) (10 ∷ []) (clean (replicate 15 42) refl) refl
@@ -216,7 +232,7 @@ line-whole : (changed : Bool) (m : Marked) (ls : List (List ℕ)) → IsLine m.l
 line-whole changed m ls (inl h) = subst (λ (b : Bool). AreLines (lines_by b changed m)) (sym (line-ends m.line h)) (line-prefix (marks_of changed m.mark) m.line (marks-clean changed m.mark) h, tt)
 line-whole changed m ls (inr h) = subst (λ (b : Bool). AreLines (lines_by b changed m)) (sym (no-end m.line h.0)) (line-prefix (marks_of changed m.mark) (m.line ++ 10 ∷ []) (marks-clean changed m.mark) (closes m.line h.0), (no-newline-line, tt))
 
-part-whole : (side : Side) (changed : Bool) (body : List Marked) → LinesFit (lines_of (part_of side body)) → AreLines (part_lines side changed body)
+pub part-whole : (side : Side) (changed : Bool) (body : List Marked) → LinesFit (lines_of (part_of side body)) → AreLines (part_lines side changed body)
 part-whole side changed [] h = tt
 part-whole side changed (m ∷ body) h = by (is_on_side side m.mark) h (λ k. part-whole side (mixed_behind changed m.mark body) body k)
   where
@@ -231,7 +247,7 @@ line-joined changed m = by (ends_line m.line)
     by true = flat_map-cons (λ line. line) (marks_of changed m.mark ++ m.line) [] ∙ append_assoc (marks_of changed m.mark) m.line []
     by false = flat_map-cons (λ line. line) (marks_of changed m.mark ++ (m.line ++ 10 ∷ [])) (no_newline ∷ []) ∙ append_assoc (marks_of changed m.mark) (m.line ++ 10 ∷ []) (flat_map (λ line. line) (no_newline ∷ [])) ∙ ap (λ bs. marks_of changed m.mark ++ bs) (append_assoc m.line (10 ∷ []) no_newline)
 
-part-joined : (side : Side) (changed : Bool) (body : List Marked) → flat_map (λ line. line) (part_lines side changed body) ≡ part_text side changed body
+pub part-joined : (side : Side) (changed : Bool) (body : List Marked) → flat_map (λ line. line) (part_lines side changed body) ≡ part_text side changed body
 unfolding part_text
 part-joined side changed [] = refl
 part-joined side changed (m ∷ body) =

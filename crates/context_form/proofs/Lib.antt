@@ -3,6 +3,8 @@ pub mod Loops
 pub mod MergeIs
 pub mod MergeLemmas
 pub mod MergeLaws
+pub mod Spaced
+mod Capped
 pub mod RangeGrammar
 pub mod PartLemmas
 pub mod JoinLemmas
@@ -20,3 +22,4 @@ pub mod HunkFaults
 pub mod FirstFault
 pub mod Words
 pub mod Sorting
+pub mod ShownAgain

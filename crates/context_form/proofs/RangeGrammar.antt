@@ -1,27 +1,25 @@
 -- A range line that is read is spelled so, and one that is spelled so is read.
-use Rattle.std.proofs.Common.{◌≡◌, ℕ, ◌+◌, ◌-◌, ◌^◌, ◌<◌, ◌≤◌, Bool, true, false, cond, eqb, ltb, ◌||◌, List, ◌∷◌, ◌++◌, Option, None, Some, Ok, refl, sym, ap, subst, ◌∙◌, append_assoc, arith, inl, inr}
+use Rattle.std.proofs.Common.{◌≡◌, ℕ, ◌+◌, ◌-◌, ◌^◌, ◌<◌, ◌≤◌, min, Bool, true, false, cond, eqb, ltb, ◌||◌, List, ◌∷◌, ◌++◌, Option, None, Some, Ok, refl, sym, ap, subst, ◌∙◌, append_assoc, arith, inl, inr}
 use Rattle.std.specs.Prelude.{is_some}
 use Rattle.std.proofs.lemmas.Bool.{eqb-true, eqb-false, ltb-true, ltb-false, le-ltb, lt-ltb, ne_eqb, or_parts}
 use Rattle.hunk_core.specs.declared.BadKind.TheVariants as kinds
 use Rattle.hunk_core.specs.declared.Side.{Side}
 use Rattle.hunk_core.specs.declared.Side.TheVariants.{Forward, Reversed}
 use Rattle.hunk_core.specs.LineTests.{after, is_backslash}
-use Rattle.line_list.proofs.Choices.{chosen, some_is}
+use Rattle.line_list.proofs.Choices.{chosen}
 use Rattle.hunk_core.proofs.TextLemmas.{after-takes, after-again}
 use Rattle.num_text.specs.declared.range.NumberRange.{NumberRange}
 use Rattle.num_text.specs.Numbers.{number_at, NoDigitFirst}
-use Rattle.num_text.proofs.Runs.{number-again}
-use Rattle.num_text.specs.NumberRanges.{range_at}
-use Rattle.num_text.specs.NumberRanges as ranges
-use Rattle.num_text.proofs.RangeGrammar.{range-takes, StopsRange, ranged, range-again, range-single}
+use Rattle.num_text.proofs.RangeGrammar.{ranged}
 use Rattle.hunk_core.specs.OptionSteps.{◌>>=◌}
 use Rattle.hunk_core.proofs.OptionLemmas.{some_step}
 use Rattle.hunk_core.proofs.FaultSteps.{pass}
 use Rattle.context_form.specs.declared.range.Stated.{Stated}
-use Rattle.context_form.specs.Ranges.{before_range, behind_range, numbers_at, is_bad_range, is_too_large, stated, checked, from_numbers, range_line, most, is_count, is_count_by}
+use Rattle.context_form.specs.Ranges.{before_range, behind_range, numbers_at, unblanked, spaced_at, is_bad_range, is_too_large, stated, checked, from_numbers, range_line, most, is_count, is_count_by}
 use Rattle.context_form.specs.Openings.{opens_old}
 use Rattle.context_form.specs.Parts.{mark_at}
-use Rattle.context_form.specs.Grammar.{SpellsNumbers, SpellsRange, stated_as}
+use Rattle.context_form.specs.Grammar.{SpellsSpaced, SpellsNumbers, SpellsRange, stated_as}
+use Rattle.context_form.proofs.Spaced.{StopsSpaced, spaced-again, read_as, spaced_form, spaced_read, IsTaken, small-taken, one-same}
 
 -- ---- steps
 -- ---- the numbers
@@ -30,9 +28,9 @@ pub closed-ok : (r : NumberRange) (o : Option (List ℕ)) (q : NumberRange) → 
 closed-ok r None q e = absurd cc
 closed-ok r (Some rest) q e = (rest, refl, cc)
 
-pub stops-behind : (side : Side) (rest : List ℕ) → StopsRange (behind_range side ++ rest)
-stops-behind Forward rest = record { digit = refl; comma = λ n. refl }
-stops-behind Reversed rest = record { digit = refl; comma = λ n. refl }
+pub stops-behind : (side : Side) (rest : List ℕ) → StopsSpaced (behind_range side ++ rest)
+stops-behind Forward rest = record { digit = refl; blank = refl; comma = λ n. refl }
+stops-behind Reversed rest = record { digit = refl; blank = refl; comma = λ n. refl }
 
 -- one number, or two
 abbrev pub one_by : Option ℕ → Bool
@@ -47,7 +45,7 @@ record TakesNumbers (side : Side) (line : List ℕ) (r : NumberRange) : Type 0 w
   text : List ℕ
   rest : List ℕ
   parts : line ≡ before_range side ++ (text ++ (behind_range side ++ rest))
-  spelled : ranges.SpellsRange text r.is_single r.first r.last
+  spelled : SpellsSpaced text r.is_single r.first r.last
   turned : r.is_turned ≡ ltb r.last r.first
 
 pub join_parts : (line a first b second c rest : List ℕ) → line ≡ a ++ first → first ≡ b ++ second → second ≡ c ++ rest → line ≡ a ++ (b ++ (c ++ rest))
@@ -57,35 +55,49 @@ numbers-one : (side : Side) (line : List ℕ) (r : NumberRange) → numbers_at s
 unfolding numbers_at
 numbers-one side line r e =
     let a = some_step (after (before_range side) line) _ r e in
-    let b = some_step (range_at a.0) _ r a.2 in
+    let b = some_step (spaced_at a.0) _ r a.2 in
     let c = closed-ok b.0.0 (after (behind_range side) b.0.1) r b.2 in
-    subst (λ (q : NumberRange). q.is_single ≡ true → q.last ≡ q.first) c.2 (range-single a.0 b.0 b.1)
+    let f = spaced_form a.0 b.0 b.1 in
+    subst (λ (q : NumberRange). q.is_single ≡ true → q.last ≡ q.first) (sym f.read ∙ c.2) (one-same f.single f.first f.last)
 
 numbers-take : (side : Side) (line : List ℕ) (r : NumberRange) → numbers_at side line ≡ Some r → r.first < 2 ^ 32 → r.last < 2 ^ 32 → TakesNumbers side line r
 unfolding numbers_at
 numbers-take side line r e small small2 =
     let a = some_step (after (before_range side) line) _ r e in
-    let b = some_step (range_at a.0) _ r a.2 in
+    let b = some_step (spaced_at a.0) _ r a.2 in
     let c = closed-ok b.0.0 (after (behind_range side) b.0.1) r b.2 in
-    let t = range-takes a.0 b.0 b.1 (subst (λ (q : NumberRange). q.first < 2 ^ 32) (sym c.2) small) (subst (λ (q : NumberRange). q.last < 2 ^ 32) (sym c.2) small2) in
-    subst (TakesNumbers side line) c.2 (record {
-      text = t.text;
+    let f = spaced_form a.0 b.0 b.1 in
+    let same : read_as f.single f.first f.last ≡ r = sym f.read ∙ c.2 in
+    let t = small-taken f.text f.single f.first f.last f.spelled (subst (λ (q : NumberRange). q.first < 2 ^ 32) (sym same) small) (subst (λ (q : NumberRange). q.last < 2 ^ 32) (sym same) small2) in
+    let taken : IsTaken f.text r = subst (IsTaken f.text) same t in
+    record {
+      text = f.text;
       rest = c.0;
-      parts = join_parts line (before_range side) a.0 t.text b.0.1 (behind_range side) c.0 (after-takes (before_range side) line a.0 a.1) t.parts (after-takes (behind_range side) b.0.1 c.0 c.1);
-      spelled = t.spelled;
-      turned = t.turned;
-    })
+      parts = join_parts line (before_range side) a.0 f.text b.0.1 (behind_range side) c.0 (after-takes (before_range side) line a.0 a.1) f.parts (after-takes (behind_range side) b.0.1 c.0 c.1);
+      spelled = taken.0;
+      turned = taken.1;
+    }
 
-numbers-again : (side : Side) (line text rest : List ℕ) (single : Bool) (first last : ℕ) → line ≡ before_range side ++ (text ++ (behind_range side ++ rest)) → ranges.SpellsRange text single first last → first < 2 ^ 32 → last < 2 ^ 32
+not-below : (n : ℕ) → ltb n n ≡ false
+not-below n = le-ltb n n (omega arith)
+
+as-ranged : (text : List ℕ) (single : Bool) (first last : ℕ) → SpellsSpaced text single first last → first < 2 ^ 32 → last < 2 ^ 32 → read_as single first last ≡ ranged single first last
+as-ranged text true first last s small small2 = let m : min first (2 ^ 32) ≡ first = omega arith in rw (s.0, m, not-below first) refl
+as-ranged text false first last s small small2 =
+    let m : min first (2 ^ 32) ≡ first = omega arith in
+    let k : min last (2 ^ 32) ≡ last = omega arith in
+    rw (m, k) refl
+
+numbers-again : (side : Side) (line text rest : List ℕ) (single : Bool) (first last : ℕ) → line ≡ before_range side ++ (text ++ (behind_range side ++ rest)) → SpellsSpaced text single first last → first < 2 ^ 32 → last < 2 ^ 32
     → numbers_at side line ≡ Some (ranged single first last)
 unfolding numbers_at
 numbers-again side line text rest single first last parts spelled small small2 =
     rw (
       parts,
       after-again (before_range side) (text ++ (behind_range side ++ rest)),
-      range-again text single first last (behind_range side ++ rest) spelled small small2 (stops-behind side rest),
+      spaced_read text single first last (behind_range side ++ rest) spelled (stops-behind side rest),
       after-again (behind_range side) rest,
-    ) refl
+    ) (ap (λ (q : NumberRange). Some q) (as-ranged text single first last spelled small small2))
 
 -- ---- the tests
 
@@ -229,9 +241,9 @@ unmarked-dashes bytes = refl
 pub dashes-unmarked : (line : List ℕ) (single : Bool) (start n : ℕ) → SpellsRange Reversed line single start n → is_some (mark_at Forward line) ≡ false
 dashes-unmarked line single start n s = subst (λ l. is_some (mark_at Forward l) ≡ false) (sym s.parts) (unmarked-dashes (s.text ++ (behind_range Reversed ++ s.rest)))
 
-numeral-first : (text rest : List ℕ) (single : Bool) (start n : ℕ) → SpellsNumbers text single start n → NoDigitFirst rest → is_some (number_at (text ++ rest)) ≡ true
-numeral-first text rest true start n s stops = rw (number-again text start rest s.0 stops) refl
-numeral-first text rest false start n s stops = rw (s.3, append_assoc s.0 (44 ∷ s.1) rest, number-again s.0 start (44 ∷ (s.1 ++ rest)) s.4 refl) refl
+numeral-first : (text rest : List ℕ) (single : Bool) (start n : ℕ) → SpellsNumbers text single start n → NoDigitFirst rest → is_some (number_at (unblanked (text ++ rest))) ≡ true
+numeral-first text rest true start n s stops = rw (spaced-again text start rest s.0 stops) refl
+numeral-first text rest false start n s stops = rw (s.3, append_assoc s.0 (44 ∷ s.1) rest, spaced-again s.0 start (44 ∷ (s.1 ++ rest)) s.4 refl) refl
 
 pub stars-again : (line : List ℕ) (single : Bool) (start n : ℕ) → SpellsRange Forward line single start n → opens_old line ≡ true
 stars-again line single start n s = rw (first-again Forward line s.text s.rest s.parts) (numeral-first s.text (behind_range Forward ++ s.rest) single start n s.numbers refl)

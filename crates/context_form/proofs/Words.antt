@@ -6,17 +6,19 @@ use Rattle.std.proofs.Math.Bool.{or-true}
 use Rattle.num_text.specs.Numbers.{number_at, is_digit}
 use Rattle.hunk_core.specs.declared.Mark.{Mark}
 use Rattle.hunk_core.specs.declared.Mark.TheVariants as its
-use Rattle.hunk_core.specs.declared.Side.TheVariants.{Forward, Reversed}
+use Rattle.hunk_core.specs.declared.Side.TheVariants.{Reversed}
 use Rattle.hunk_core.specs.Sides.{is_on_side}
-use Rattle.hunk_core.specs.PlainHunk.{Marked, PlainHunk}
+use Rattle.hunk_core.specs.PlainHunk.{Marked}
 use Rattle.hunk_core.specs.Turned.{is_keep}
 use Rattle.hunk_core.specs.LineTests.{after}
 use Rattle.hunk_core.proofs.TextLemmas.{after-takes, after-again, has_some}
 use Rattle.context_form.specs.Openings.{is_stars, has_number, opens_old, begins_hunk}
 use Rattle.context_form.specs.Parts.{mark_at}
-use Rattle.context_form.specs.Merging.{kept_count, part_of}
+use Rattle.context_form.specs.Merging.{kept_count}
 use Rattle.context_form.specs.Presence.{may_begin, begins_part, drops_alone, is_there, Begins, BeginsChange}
-use Rattle.context_form.specs.Grammar.{mark_byte, stated_as}
+use Rattle.context_form.specs.Ranges.{unblanked}
+use Rattle.context_form.specs.Grammar.{AreBlanks, mark_byte, stated_as}
+use Rattle.context_form.proofs.Spaced.{blanked, blank-again, digit-unblank}
 use Rattle.context_form.proofs.PartLemmas.{mark-takes, mark-again}
 use Rattle.context_form.proofs.Pieces.{opens-both}
 
@@ -35,12 +37,12 @@ number-first (b ∷ bytes) e = (b, bytes, refl, by (is_digit b) refl e)
     by true is k = is
     by false is k = absurd (let none : is_some (number_at (b ∷ bytes)) ≡ false = rw is refl in cc)
 
-old-first : (o : Option (List ℕ)) → has_number o ≡ true → (bytes : List ℕ) × (o ≡ Some bytes) × (is_some (number_at bytes) ≡ true)
+old-first : (o : Option (List ℕ)) → has_number o ≡ true → (bytes : List ℕ) × (o ≡ Some bytes) × (is_some (number_at (unblanked bytes)) ≡ true)
 old-first None e = absurd cc
 old-first (Some bytes) e = (bytes, refl, e)
 
 abbrev Opening : List (List ℕ) → Type 0
-Opening lines = (bytes : List ℕ) × (d : ℕ) × (more : List ℕ) × (rest : List (List ℕ)) × (lines ≡ (stars ++ bytes) ∷ (42 ∷ 42 ∷ 42 ∷ 32 ∷ d ∷ more) ∷ rest) × (is_digit d ≡ true)
+Opening lines = (bytes : List ℕ) × (blanks : List ℕ) × (d : ℕ) × (more : List ℕ) × (rest : List (List ℕ)) × (lines ≡ (stars ++ bytes) ∷ (42 ∷ 42 ∷ 42 ∷ 32 ∷ (blanks ++ d ∷ more)) ∷ rest) × AreBlanks blanks × (is_digit d ≡ true)
 
 opening-is : (lines : List (List ℕ)) → begins_hunk lines ≡ true → Opening lines
 opening-is [] e = absurd cc
@@ -49,13 +51,14 @@ opening-is (line ∷ other ∷ rest) e =
     let b = and_parts (is_stars line) (opens_old other) e in
     let s = has_some (after stars line) b.0 in
     let o = old-first (after before other) b.1 in
-    let d = number-first o.0 o.2 in
+    let d = number-first (unblanked o.0) o.2 in
+    let f = blanked o.0 in
     let one : line ≡ stars ++ s.0 = after-takes stars line s.0 s.1 in
-    let two : other ≡ 42 ∷ 42 ∷ 42 ∷ 32 ∷ d.0 ∷ d.1 = after-takes before other o.0 o.1 ∙ ap (λ bs. before ++ bs) d.2 in
-    (s.0, d.0, d.1, rest, ap (λ l. l ∷ other ∷ rest) one ∙ ap (λ l. (stars ++ s.0) ∷ l ∷ rest) two, d.3)
+    let two : other ≡ 42 ∷ 42 ∷ 42 ∷ 32 ∷ (f.front ++ d.0 ∷ d.1) = after-takes before other o.0 o.1 ∙ ap (λ bs. before ++ bs) (f.parts ∙ ap (λ (bs : List ℕ). f.front ++ bs) d.2) in
+    (s.0, f.front, d.0, d.1, rest, ap (λ l. l ∷ other ∷ rest) one ∙ ap (λ l. (stars ++ s.0) ∷ l ∷ rest) two, f.blanks, d.3)
 
-old-again : (d : ℕ) (more : List ℕ) → is_digit d ≡ true → has_number (after before (before ++ d ∷ more)) ≡ true
-old-again d more e = rw (after-again before (d ∷ more), e) refl
+old-again : (blanks : List ℕ) (d : ℕ) (more : List ℕ) → AreBlanks blanks → is_digit d ≡ true → has_number (after before (before ++ (blanks ++ d ∷ more))) ≡ true
+old-again blanks d more h e = rw (after-again before (blanks ++ d ∷ more), blank-again blanks (d ∷ more) h (digit-unblank d e), e) refl
 
 stars-again : (bytes : List ℕ) → is_some (after stars (stars ++ bytes)) ≡ true
 stars-again bytes = rw (after-again stars bytes) refl
@@ -63,7 +66,7 @@ stars-again bytes = rw (after-again stars bytes) refl
 pub opening-words : (lines : List (List ℕ)) → begins_hunk lines ≡ true ↔ Opening lines
 opening-words lines = (
   λ e. opening-is lines e,
-  λ h. ap begins_hunk h.4 ∙ opens-both (stars ++ h.0) (before ++ h.1 ∷ h.2) h.3 (stars-again h.0) (old-again h.1 h.2 h.5),
+  λ h. ap begins_hunk h.5 ∙ opens-both (stars ++ h.0) (before ++ (h.1 ++ h.2 ∷ h.3)) h.4 (stars-again h.0) (old-again h.1 h.2 h.3 h.6 h.7),
 )
 
 -- ---- whether the new part is there

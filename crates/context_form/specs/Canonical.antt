@@ -1,12 +1,14 @@
 -- The canonical text of a hunk.
-use Rattle.std.specs.Prelude.{◌≡◌, ℕ, Bool, true, false, ◌&&◌, List, [], ◌∷◌, ◌++◌, length, replicate, if◌then◌else◌}
+use Rattle.std.specs.Prelude.{◌≡◌, ℕ, Bool, true, false, not, ◌&&◌, List, [], ◌∷◌, ◌++◌, length, replicate, if◌then◌else◌}
+use Rattle.std.specs.List.{list_any}
 use Rattle.line_list.specs.Lines.{lines}
 use Rattle.hunk_core.specs.declared.Mark.{Mark}
+use Rattle.hunk_core.specs.declared.Mark.TheVariants.{Keep, Drop, Add}
 use Rattle.hunk_core.specs.declared.Side.{Side}
 use Rattle.hunk_core.specs.declared.Side.TheVariants.{Forward, Reversed}
 use Rattle.hunk_core.specs.Sides.{is_on_side}
 use Rattle.hunk_core.specs.PlainHunk.{Marked, PlainHunk, old_lines, new_lines}
-use Rattle.hunk_core.specs.Turned.{is_keep, is_drop}
+use Rattle.hunk_core.specs.Turned.{is_keep, is_drop, other_side}
 use Rattle.hunk_core.specs.LineTests.{ends_line}
 use Rattle.hunk_core.specs.Writing.{no_newline}
 use Rattle.hunk_core.specs.Spans.{span_text}
@@ -19,7 +21,7 @@ stars_text = replicate 15 42 ++ 10 ∷ []
 
 -- the range line of a part
 abbrev pub range_line_text : Side → ℕ → ℕ → List ℕ
-range_line_text side start count = before_range side ++ (span_text start count ++ (behind_range side ++ 10 ∷ []))
+range_line_text side start count = before_range side ++ (span_text start count ++ ((32 ∷ behind_range side) ++ 10 ∷ []))
 
 -- a line behind its mark, '! ' for one of changed lines
 abbrev pub line_text : Bool → Marked → List ℕ
@@ -46,6 +48,36 @@ part_text side changed (m ∷ body) = (if is_on_side side m.mark then line_text 
 -- asterisks, the old range, the old part, the new range, the new part
 abbrev pub canonical : PlainHunk → List ℕ
 canonical h = (stars_text ++ range_line_text Forward h.old_start (length (old_lines h.body))) ++ (part_text Forward (mixed h.body) h.body ++ (range_line_text Reversed h.new_start (length (new_lines h.body)) ++ part_text Reversed (mixed h.body) h.body))
+
+-- ---- a hunk as diff writes it
+
+-- a line with this mark is on this side alone
+abbrev pub is_changed : Side → Mark → Bool
+is_changed side Keep = false
+is_changed Forward Drop = true
+is_changed Forward Add = false
+is_changed Reversed Drop = false
+is_changed Reversed Add = true
+
+abbrev pub has_changed : Side → List Marked → Bool
+has_changed side body = list_any (λ m. is_changed side m.mark) body
+
+-- a part without changed lines is left out beside one that has some
+abbrev pub is_left_out : Side → List Marked → Bool
+is_left_out side body = not (has_changed side body) && has_changed (other_side side) body
+
+abbrev pub half_text : Side → List Marked → List ℕ
+half_text side body = if is_left_out side body then [] else part_text side (mixed body) body
+
+-- asterisks with this text behind them, and the old range
+abbrev pub opening_text : List ℕ → ℕ → ℕ → List ℕ
+opening_text behind start count = replicate 15 42 ++ (behind ++ 10 ∷ range_line_text Forward start count)
+
+-- what is written of a hunk, with this text behind its asterisks
+abbrev pub shown : List ℕ → PlainHunk → List ℕ
+shown behind h = opening_text behind h.old_start (length (old_lines h.body)) ++ (half_text Forward h.body ++ (range_line_text Reversed h.new_start (length (new_lines h.body)) ++ half_text Reversed h.body))
+
+-- ---- a hunk that is read again
 
 -- the dropped lines, and then the added ones, of each stretch, behind added lines that wait
 unfoldable pub drops_before : List Marked → List Marked → List Marked

@@ -11,20 +11,40 @@ use Rattle.num_text.specs.Numbers.{IsNumeral}
 use Rattle.hunk_core.specs.Following.{SpellsEach, IsPieceOf}
 use Rattle.context_form.specs.declared.range.Stated.{Stated}
 use Rattle.context_form.specs.Openings.{is_stars, begins_hunk}
-use Rattle.context_form.specs.Ranges.{before_range, behind_range}
+use Rattle.context_form.specs.Ranges.{before_range, behind_range, is_blank}
 use Rattle.context_form.specs.Merging.{part_of, DropsFirst}
 use Rattle.context_form.specs.Parts.{PlainBody, behind_blank, begins_new}
 use Rattle.context_form.specs.Presence.{is_there, is_new}
 
 -- ---- range lines
 
+-- spaces and tabs
+abbrev pub AreBlanks : List ℕ → Type 0
+AreBlanks [] = Unit {0}
+AreBlanks (b ∷ bytes) = (is_blank b ≡ true) × AreBlanks bytes
+
+-- a number, with blanks around it or none
+pub record IsSpaced (text : List ℕ) (n : ℕ) : Type 0 where
+  pub front : List ℕ
+  pub digits : List ℕ
+  pub behind : List ℕ
+  pub parts : text ≡ front ++ (digits ++ behind)
+  pub before : AreBlanks front
+  pub numeral : IsNumeral digits n
+  pub after : AreBlanks behind
+
+-- one number, which counts as both, or two with a comma
+abbrev pub SpellsSpaced : List ℕ → Bool → ℕ → ℕ → Type 0
+SpellsSpaced text true first last = (last ≡ first) × IsSpaced text first
+SpellsSpaced text false first last = (one : List ℕ) × (two : List ℕ) × IsSpaced one first × IsSpaced two last × (text ≡ one ++ 44 ∷ two)
+
 -- one number for one line or none, and 0 for none; or two for the first and the last of some lines
 abbrev pub SpellsNumbers : List ℕ → Bool → ℕ → ℕ → Type 0
-SpellsNumbers text true start count = IsNumeral text start × (count < 2) × (start ≡ 0 → count ≡ 0)
-SpellsNumbers text false start count = (first : List ℕ) × (second : List ℕ) × (last : ℕ) × (text ≡ first ++ 44 ∷ second) × IsNumeral first start × IsNumeral second last
+SpellsNumbers text true start count = IsSpaced text start × (count < 2) × (start ≡ 0 → count ≡ 0)
+SpellsNumbers text false start count = (first : List ℕ) × (second : List ℕ) × (last : ℕ) × (text ≡ first ++ 44 ∷ second) × IsSpaced first start × IsSpaced second last
     × (1 ≤ start) × (start ≤ last) × (start + count ≡ last + 1)
 
--- '*** ', numbers, ' ****' for an old part; '--- ', numbers, ' ----' for a new one; and any rest
+-- '*** ', numbers, '****' for an old part; '--- ', numbers, '----' for a new one; and any rest
 pub record SpellsRange (side : Side) (line : List ℕ) (single : Bool) (start count : ℕ) : Type 0 where
   pub text : List ℕ
   pub rest : List ℕ

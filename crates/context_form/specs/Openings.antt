@@ -2,17 +2,18 @@
 use Rattle.std.specs.Prelude.{ℕ, Bool, false, ◌&&◌, List, [], ◌∷◌, Option, None, Some, is_some, replicate}
 use Rattle.hunk_core.specs.LineTests.{after}
 use Rattle.num_text.specs.Numbers.{number_at}
+use Rattle.context_form.specs.Ranges.{unblanked}
 
 -- 15 asterisks
 abbrev pub is_stars : List ℕ → Bool
 is_stars line = is_some (after (replicate 15 42) line)
 
--- a number comes first
+-- a number comes first, with blanks in front of it or none
 abbrev pub has_number : Option (List ℕ) → Bool
 has_number None = false
-has_number (Some rest) = is_some (number_at rest)
+has_number (Some rest) = is_some (number_at (unblanked rest))
 
--- '*** ' and a digit
+-- '*** ', blanks if there are any, and a digit
 abbrev pub opens_old : List ℕ → Bool
 opens_old line = has_number (after (42 ∷ 42 ∷ 42 ∷ 32 ∷ []) line)
 

@@ -6,7 +6,8 @@ use Rattle.hunk_core.specs.declared.Side.{Side}
 use Rattle.hunk_core.specs.declared.Side.TheVariants.{Forward, Reversed}
 use Rattle.hunk_core.specs.LineTests.{after}
 use Rattle.num_text.specs.declared.range.NumberRange.{NumberRange}
-use Rattle.num_text.specs.NumberRanges.{range_at}
+use Rattle.num_text.specs.Numbers.{number_at}
+use Rattle.num_text.specs.NumberRanges.{one, two}
 use Rattle.hunk_core.specs.OptionSteps.{◌>>=◌}
 use Rattle.context_form.specs.declared.range.Stated.{Stated}
 
@@ -15,16 +16,44 @@ abbrev pub before_range : Side → List ℕ
 before_range Forward = 42 ∷ 42 ∷ 42 ∷ 32 ∷ []
 before_range Reversed = 45 ∷ 45 ∷ 45 ∷ 32 ∷ []
 
--- ' ****' behind the range of the old part, ' ----' behind that of the new one
+-- '****' behind the range of the old part, '----' behind that of the new one
 abbrev pub behind_range : Side → List ℕ
-behind_range Forward = 32 ∷ 42 ∷ 42 ∷ 42 ∷ 42 ∷ []
-behind_range Reversed = 32 ∷ 45 ∷ 45 ∷ 45 ∷ 45 ∷ []
+behind_range Forward = 42 ∷ 42 ∷ 42 ∷ 42 ∷ []
+behind_range Reversed = 45 ∷ 45 ∷ 45 ∷ 45 ∷ []
+
+-- a space or a tab
+abbrev pub is_blank : ℕ → Bool
+is_blank b = b == 32 || b == 9
+
+-- what stands behind blanks, of which there may be none
+unfoldable pub unblanked : List ℕ → List ℕ
+unblanked [] = []
+unblanked (b ∷ bytes) = if is_blank b then unblanked bytes else b ∷ bytes
+
+-- a second number behind the comma, and what stands behind it and blanks
+abbrev pub with_later : ℕ → Option (ℕ × List ℕ) → Option (NumberRange × List ℕ)
+with_later n None = None
+with_later n (Some m) = Some (two n m.0, unblanked m.1)
+
+-- what follows the first number and blanks
+abbrev pub behind_number : ℕ → List ℕ → Option (NumberRange × List ℕ)
+behind_number n [] = Some (one n, [])
+behind_number n (b ∷ bytes) = if b == 44 then with_later n (number_at (unblanked bytes)) else Some (one n, b ∷ bytes)
+
+-- the first number, if there is one
+abbrev pub from_number : Option (ℕ × List ℕ) → Option (NumberRange × List ℕ)
+from_number None = None
+from_number (Some n) = behind_number n.0 (unblanked n.1)
+
+-- a number, or two with a comma, with blanks around each, and what stands after them
+unfoldable pub spaced_at : List ℕ → Option (NumberRange × List ℕ)
+spaced_at bytes = from_number (number_at (unblanked bytes))
 
 -- a range between the stars or the dashes of this part, and any rest behind them
 unfoldable pub numbers_at : Side → List ℕ → Option NumberRange
 numbers_at side line = do
   first ← after (before_range side) line
-  range ← range_at first
+  range ← spaced_at first
   rest ← after (behind_range side) range.1
   Some range.0
 

@@ -7,7 +7,7 @@ ghost use Rattle.context_form.specs.Openings.{begins_hunk};
 ghost use Rattle.context_form.specs.Merging.{kept_count, part_of};
 ghost use Rattle.num_text.specs.Numbers.{is_digit};
 ghost use Rattle.hunk_core.specs.declared.Side.{Side};
-ghost use Rattle.context_form.specs.Grammar.{IsPiece, SpellsHunk, stated_as, written};
+ghost use Rattle.context_form.specs.Grammar.{AreBlanks, IsPiece, SpellsHunk, stated_as, written};
 ghost use Rattle.context_form.specs.FirstFault.{decided_by};
 ghost use Rattle.hunk_core.specs.FirstFault.{AgreeTo};
 ghost use Rattle.context_form.specs.Hunks.{reading};
@@ -36,9 +36,10 @@ pub fn first_faults()
 
 /// The tests of the grammar, in the words of the diffutils manual.
 pub fn grammar_in_words()
-    // 15 asterisks, and behind their line '*** ' and a digit.
+    // 15 asterisks, and behind their line '*** ', blanks if there are any, and a digit.
     ensures opening { (lines : List (List ℕ)) → begins_hunk lines ≡ true
-        ↔ ((bytes : List ℕ) × (d : ℕ) × (more : List ℕ) × (rest : List (List ℕ)) × (lines ≡ (replicate 15 42 ++ bytes) ∷ (42 ∷ 42 ∷ 42 ∷ 32 ∷ d ∷ more) ∷ rest) × (is_digit d ≡ true)) }
+        ↔ ((bytes : List ℕ) × (blanks : List ℕ) × (d : ℕ) × (more : List ℕ) × (rest : List (List ℕ))
+        × (lines ≡ (replicate 15 42 ++ bytes) ∷ (42 ∷ 42 ∷ 42 ∷ 32 ∷ (blanks ++ d ∷ more)) ∷ rest) × AreBlanks blanks × (is_digit d ≡ true)) }
     // A new part that lost no blank is left out for 0.
     ensures zero { (olds : List Marked) (rest : List (List ℕ)) → is_there (stated_as true 0 0) olds rest ≡ false }
     // Behind one number, and an old part that is there and keeps no line, it is there where '+ ' or '! ' follows.

@@ -4,12 +4,15 @@
 mod hunks;
 mod laws;
 mod merging;
+mod numbers;
 mod opening;
 mod part;
 mod range;
+mod showing;
 mod writing;
 
 pub use hunks::read_hunks;
 pub use laws::{first_faults, grammar_in_words};
 pub use opening::at_opening;
+pub use showing::put_shown;
 pub use writing::put_hunk;

@@ -4,6 +4,7 @@ ghost use Rattle.std.specs.Prelude.{◌≡◌, ◌≤◌, length, drop};
 ghost use Rattle.line_list.specs.Lines.{lines};
 ghost use Rattle.context_form.specs.Openings.{begins_old, begins_hunk};
 
+use crate::numbers::skip_blanks;
 use hunk_core::after_prefix;
 use line_list::next_line;
 use num_text::{Number, read_number};
@@ -17,7 +18,7 @@ fn at_old_range(text: &[u8], at: usize) -> bool
         return false;
     };
     match after_prefix(&text[at..end], b"*** ") {
-        Some(rest) => read_number(rest, 0) != Number::NoDigit,
+        Some(rest) => read_number(skip_blanks(rest), 0) != Number::NoDigit,
         None => false,
     }
 }

@@ -1,11 +1,12 @@
 //! The range line of a part.
 
-ghost use Rattle.std.specs.Prelude.{◌≡◌, ◌<◌, ◌≤◌, ◌^◌, IfOk, IfSome};
+ghost use Rattle.std.specs.Prelude.{◌≡◌, ◌<◌, ◌≤◌, ◌^◌, ◌∷◌, IfOk, IfSome};
 ghost use Rattle.num_text.specs.NumberRanges.{HasSmallEnds};
 ghost use Rattle.context_form.specs.Ranges.{before_range, behind_range, numbers_at, is_bad_range, is_too_large, stated, checked, range_line, most, is_count, Fits};
 
+use crate::numbers::read_spaced;
 use hunk_core::{BadKind, Side, after_prefix};
-use num_text::{NumberRange, read_range};
+use num_text::NumberRange;
 
 /// What a range line states: a start, and how many lines there are. Without a count the part has one
 /// line or none.
@@ -25,11 +26,21 @@ pub fn before(side: Side) -> &'static [u8]
 }
 
 pub fn behind(side: Side) -> &'static [u8]
-    ensures { result.now ≡ behind_range side }
+    ensures { result.now ≡ 32 ∷ behind_range side }
 {
     match side {
         Side::Forward => b" ****",
         Side::Reversed => b" ----",
+    }
+}
+
+/// What stands behind the numbers and their blanks.
+fn end(side: Side) -> &'static [u8]
+    ensures { result.now ≡ behind_range side }
+{
+    match side {
+        Side::Forward => b"****",
+        Side::Reversed => b"----",
     }
 }
 
@@ -40,8 +51,8 @@ fn numbers_of(line: &[u8], side: Side) -> Option<NumberRange>
     ensures small { IfSome result HasSmallEnds }
 {
     let rest = after_prefix(line, before(side))?;
-    let (range, rest) = read_range(rest)?;
-    after_prefix(rest, behind(side))?;
+    let (range, rest) = read_spaced(rest)?;
+    after_prefix(rest, end(side))?;
     Some(range)
 }
 

@@ -150,7 +150,7 @@ fn is_mixed_behind(hunk: &Hunk, mark: Mark, from: usize, changed: bool) -> bool
 }
 
 /// The lines of one part of a hunk as it is taken from a side.
-fn put_part<O: Sink>(
+pub fn put_part<O: Sink>(
     out: &mut O,
     hunk: &Hunk,
     text: &[u8],
@@ -192,7 +192,7 @@ fn add_span(gathered: &mut ArrayVec<u8, 96>, start: u32, count: u32)
 }
 
 /// The range line of a part.
-fn add_range_line(gathered: &mut ArrayVec<u8, 96>, part: Side, start: u32, count: u32)
+pub fn add_range_line(gathered: &mut ArrayVec<u8, 96>, part: Side, start: u32, count: u32)
     requires { length gathered.old.items + 51 ≤ 96 }
     ensures { gathered.new.items ≡ gathered.old.items ++ range_line_text part start count }
 {
@@ -213,7 +213,7 @@ fn put_opening<O: Sink>(out: &mut O, start: u32, count: u32) -> Result<(), Faile
 }
 
 /// The range line of the new part.
-fn put_middle<O: Sink>(out: &mut O, start: u32, count: u32) -> Result<(), Failed>
+pub fn put_middle<O: Sink>(out: &mut O, start: u32, count: u32) -> Result<(), Failed>
     ensures { Puts O.view O.same_rest out.old out.new result (range_line_text Side.Reversed start count) }
 {
     let mut gathered = ArrayVec::new();

@@ -7,13 +7,12 @@ use Rattle.hunk_core.specs.declared.Side.{Side}
 use Rattle.hunk_core.specs.LineTests.{after}
 use Rattle.hunk_core.proofs.TextLemmas.{after-takes, after-again}
 use Rattle.num_text.specs.declared.range.NumberRange.{NumberRange}
-use Rattle.num_text.specs.NumberRanges.{range_at}
 use Rattle.context_form.specs.declared.range.Stated.{Stated}
-use Rattle.context_form.specs.Ranges.{before_range, behind_range, numbers_at, is_bad_range, is_too_large, stated, checked, from_numbers, range_line, most, most_by, is_count, is_count_by}
+use Rattle.context_form.specs.Ranges.{before_range, behind_range, spaced_at, numbers_at, is_bad_range, is_too_large, stated, checked, from_numbers, range_line, most, most_by, is_count, is_count_by}
+use Rattle.context_form.proofs.Spaced.{read_as, spaced_form, spaced_read}
 use Rattle.context_form.proofs.RangeGrammar.{is_one, line-known, join_parts, closed-ok, stops-behind}
 use Rattle.hunk_core.proofs.OptionLemmas.{some_step}
 use Rattle.fault_law.specs.ContextFaults.{HasNumbers, IsBadRange, IsTooLarge, StartsBelow}
-use Rattle.fault_law.proofs.NumberForms.{read_as, range_form, range_read}
 use Rattle.fault_law.proofs.FailedTests.{kind_is}
 
 -- ---- a range line that was read is spelled so, and what is spelled so is read
@@ -29,9 +28,9 @@ numbers_form : (side : Side) (line : List ℕ) (r : NumberRange) → numbers_at 
 unfolding numbers_at
 numbers_form side line r e =
     let a = some_step (after (before_range side) line) _ r e in
-    let b = some_step (range_at a.0) _ r a.2 in
+    let b = some_step (spaced_at a.0) _ r a.2 in
     let c = closed-ok b.0.0 (after (behind_range side) b.0.1) r b.2 in
-    let f = range_form a.0 b.0 b.1 in
+    let f = spaced_form a.0 b.0 b.1 in
     record {
       single = f.single;
       first = f.first;
@@ -51,7 +50,7 @@ numbers_read side line single first last h =
     rw (
       h.parts,
       after-again (before_range side) (h.text ++ (behind_range side ++ h.rest)),
-      range_read h.text single first last (behind_range side ++ h.rest) h.spelled (stops-behind side h.rest),
+      spaced_read h.text single first last (behind_range side ++ h.rest) h.spelled (stops-behind side h.rest),
       after-again (behind_range side) h.rest,
     ) refl
 

@@ -9,17 +9,16 @@ use Rattle.hunk_core.specs.declared.Side.TheVariants.{Forward, Reversed}
 use Rattle.hunk_core.specs.Sides.{is_on_side}
 use Rattle.hunk_core.specs.PlainHunk.{PlainHunk}
 use Rattle.hunk_core.specs.LineTests.{after, is_backslash}
-use Rattle.num_text.specs.NumberRanges as numbers
 use Rattle.context_form.specs.Ranges.{before_range, behind_range}
-use Rattle.context_form.specs.Grammar.{mark_byte, IsEmptyLine, SpellsRange, SpellsHunks}
+use Rattle.context_form.specs.Grammar.{mark_byte, IsEmptyLine, SpellsSpaced, SpellsRange, SpellsHunks}
 use Rattle.hunk_core.specs.Pieces.{last_start}
 
--- '*** ', one number or two, ' ****' for an old part; '--- ', numbers, ' ----' for a new one; and any rest
+-- '*** ', one number or two, '****' for an old part; '--- ', numbers, '----' for a new one; and any rest
 pub record HasNumbers (side : Side) (line : List ℕ) (single : Bool) (first last : ℕ) : Type 0 where
   pub text : List ℕ
   pub rest : List ℕ
   pub parts : line ≡ before_range side ++ (text ++ (behind_range side ++ rest))
-  pub spelled : numbers.SpellsRange text single first last
+  pub spelled : SpellsSpaced text single first last
 
 -- the line isn't of this form, or has two numbers, the second below the first, or the first 0
 abbrev pub IsBadRange : Side → List ℕ → Type 0

@@ -32,7 +32,7 @@ use Rattle.patch_filters.proofs.Outlined.{outlines-listed}
 use Rattle.filter_choice.proofs.Rows.{flat-if}
 use Rattle.patch_filters.proofs.Rows.{filtered-is, listed-whole-is}
 use Rattle.format_convert.specs.Taken.{left_patches}
-use Rattle.format_convert.specs.Converted.{converted, written_if}
+use Rattle.format_convert.specs.Converted.{converted, written_if, written_of as form_written}
 use Rattle.format_convert.specs.Refusals.{refusal as form_refusal}
 use Rattle.format_convert.proofs.RowLemmas.{converted-is}
 use Rattle.tool_words.specs.PlainJobs.{PlainFilterJob, PlainGrepJob, PlainListJob}
@@ -198,6 +198,7 @@ pub converted-by : (form : Form) (j : PlainFilterJob) (text : List ℕ) (v : Set
 unfolding converted_in
 converted-by form j text v read =
     converted-is form j v
-    ∙ numbered-same v.text (written_if form j v.text) (spot_converted form j v.text) (λ n start before p at. refl) 0 0 0 v.patches read.spans
+    ∙ numbered-same v.text (written_if form j v.text) (spot_converted form j v.text)
+    (λ n start before p at. ap (λ (ts : List (List ℕ)). form_written form j v.text n p.header ts (patch_of v.text p)) (cut-bytes v.text p.header p.hunk_spans.items p.span.end at.cut)) 0 0 0 v.patches read.spans
     ∙ ap (λ (ss : List Spot). flat_map (spot_converted form j v.text) (zip (range_with_len 0 (length ss)) ss)) (sym (spots-by j.select.skip_binary text v read))
     ∙ ap (λ (t : List ℕ). flat_map (spot_converted form j t) (zip (range_with_len 0 (length (spots_in j.select.skip_binary text))) (spots_in j.select.skip_binary text))) read.text

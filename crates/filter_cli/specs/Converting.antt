@@ -20,7 +20,7 @@ use Rattle.format_convert.specs.declared.fault.ConvertFault.{ConvertFault}
 use Rattle.format_convert.specs.declared.fault.ConvertFault.TheVariants as convert
 use Rattle.format_convert.specs.Converted.{written_of}
 use Rattle.format_convert.specs.Refusals.{refusal as form_refusal}
-use Rattle.whole_filters.specs.Texts.{Spot, defaults, patches_in, spots_in}
+use Rattle.whole_filters.specs.Texts.{Spot, defaults, patches_in, pieces_of, spots_in}
 use Rattle.whole_filters.specs.Outcomes.{Outcome, given}
 use Rattle.filter_cli.specs.Outcomes.{filter_with}
 use Rattle.whole_filters.specs.Sifting.{HasTextCause, IsTold, Sifts}
@@ -34,7 +34,7 @@ FormOutcome = Result (List ℕ) FormFault
 
 -- what is written of a file patch behind its number, counted from 0
 abbrev pub spot_converted : Form → PlainFilterJob → List ℕ → ℕ × Spot → List ℕ
-spot_converted form j text n = written_of form j text n.0 n.1.0.header n.1.1
+spot_converted form j text n = written_of form j text n.0 n.1.0.header (pieces_of text n.1.0) n.1.1
 
 -- what is written in a form of the file patches of a text
 unfoldable pub converted_in : Form → PlainFilterJob → List ℕ → List ℕ

@@ -4,7 +4,7 @@ use Rattle.std.specs.List.{AllByRecursion, list_any}
 use Rattle.std.proofs.lemmas.List.{length-map}
 use Rattle.hunk_core.specs.declared.Form.{Form}
 use Rattle.hunk_core.specs.declared.Form.TheVariants.{Unified, Context, Normal, Ed}
-use Rattle.hunk_core.specs.PlainHunk.{PlainHunk, hunks_of}
+use Rattle.hunk_core.specs.PlainHunk.{PlainHunk, bytes_at, hunk_of, hunks_of}
 use Rattle.ed_form.specs.PlainEdit.{edits_of}
 use Rattle.patch_header.specs.declared.ways.Ways.{Ways}
 use Rattle.file_patch.specs.PlainPatch.{IsLawfulChange, hunk_count, hunks, change_of, row_count}
@@ -16,7 +16,7 @@ use Rattle.patch_set.specs.Spans.{IsPlaced}
 use Rattle.format_convert.specs.Blocks.{changes}
 use Rattle.format_convert.specs.Fitting.{is_unfit}
 use Rattle.format_convert.specs.Taken.{kept_hunks, left_change}
-use Rattle.format_convert.specs.Converted.{is_written}
+use Rattle.format_convert.specs.Converted.{change_text, is_written, pieces}
 use Rattle.format_convert.specs.Refusals.{change_lacks, shows_context}
 use Rattle.reading_law.proofs.Hunks.{IsGood, Rising}
 use Rattle.reading_law.proofs.FlipReading.{HasHunk, all-good, hunk-form}
@@ -25,7 +25,7 @@ use Rattle.filter_law.proofs.Changes.{hunks-changes, script-changes}
 use Rattle.filter_law.proofs.EdBody.{ed-body, script-body}
 use Rattle.filter_law.proofs.Kept.{kept-all, kept-rising, kept-some, read-rising}
 use Rattle.filter_law.proofs.NormalBody.{normal-body}
-use Rattle.filter_law.proofs.Shown.{Body, context-body, unified-body}
+use Rattle.filter_law.proofs.Shown.{Body, context-body, told-kept, unified-body}
 
 -- ---- a file patch of which a hunk is kept isn't bare
 
@@ -54,32 +54,34 @@ record IsKept (hs : List PlainHunk) : Type 0 where
   rises : Rising 0 (map (λ h. h.old_start) hs)
   some : HasHunk hs
 
-hunks-body : (ways : Ways) (form from : Form) (hs : List PlainHunk) → IsKept hs → (not (shows_context form) && is_unfit form (hunks hs)) ≡ false → is_written form (hunks hs) ≡ true → Body ways form (hunks hs)
-hunks-body ways Unified from hs k fits written = unified-body ways hs k.good k.rises k.some
-hunks-body ways Context from hs k fits written = context-body ways hs k.good k.rises k.some
-hunks-body ways Normal from hs k fits written = normal-body ways hs k.good fits written
-hunks-body ways Ed from hs k fits written = ed-body ways hs k.good fits written
+hunks-body : (ways : Ways) (form from : Form) (are : List Bool) (ts : List (List ℕ)) (gs : List PlainHunk) → length ts ≡ length gs → IsKept (kept_hunks are gs)
+    → (not (shows_context form) && is_unfit form (hunks (kept_hunks are gs))) ≡ false → is_written form (hunks (kept_hunks are gs)) ≡ true → Body ways form (hunks (kept_hunks are gs)) (change_text form from are ts (hunks gs))
+hunks-body ways Unified from are ts gs same k fits written = unified-body ways (kept_hunks are gs) (change_text Unified from are ts (hunks gs)) (told-kept Unified from are ts gs same) k.good k.rises k.some
+hunks-body ways Context from are ts gs same k fits written = context-body ways (kept_hunks are gs) (change_text Context from are ts (hunks gs)) (told-kept Context from are ts gs same) k.good k.rises k.some
+hunks-body ways Normal from are ts gs same k fits written = normal-body ways (kept_hunks are gs) k.good fits written
+hunks-body ways Ed from are ts gs same k fits written = ed-body ways (kept_hunks are gs) k.good fits written
 
 -- the change of a file patch with these hunks kept
 pub body-for : (ways : Ways) (text : List ℕ) (form : Form) (start before : ℕ) (p : FilePatch) (are : List Bool) → IsPlaced text start before p → IsLawfulChange text p.change → p.header.bare ≡ false
     → list_any (λ is. is) are ≡ true → length are ≡ hunk_count (change_of text p.change)
     → change_lacks form p.header.form (left_change are (change_of text p.change)) ≡ false → (not (shows_context form) && is_unfit form (left_change are (change_of text p.change))) ≡ false → is_written form (left_change are (change_of text p.change)) ≡ true
-    → Body ways form (left_change are (change_of text p.change))
-body-for ways text form start before p are placed lawful bare some long lacks fits written = by p.change placed.pieces lawful long lacks fits written
+    → Body ways form (left_change are (change_of text p.change)) (change_text form p.header.form are (pieces text p) (change_of text p.change))
+body-for ways text form start before p are placed lawful bare some long lacks fits written = by p.change placed.pieces placed.each lawful long lacks fits written
   where
-    by : (c : Change) → SpellChange text p.header.form p.hunk_spans.items (change_of text c) → IsLawfulChange text c → length are ≡ hunk_count (change_of text c)
+    by : (c : Change) → SpellChange text p.header.form p.hunk_spans.items (change_of text c) → length p.hunk_spans.items ≡ row_count c → IsLawfulChange text c → length are ≡ hunk_count (change_of text c)
         → change_lacks form p.header.form (left_change are (change_of text c)) ≡ false → (not (shows_context form) && is_unfit form (left_change are (change_of text c))) ≡ false → is_written form (left_change are (change_of text c)) ≡ true
-        → Body ways form (left_change are (change_of text c))
-    by (Hunks hs) pieces lawful long lacks fits written =
+        → Body ways form (left_change are (change_of text c)) (change_text form p.header.form are (pieces text p) (change_of text c))
+    by (Hunks hs) cut each lawful long lacks fits written =
         let gs : List PlainHunk = hunks_of text hs.items in
-        let hunky = hunk-form text p.header.form p.header.at p.span.end p.hunk_spans.items gs (placed.cut.turn bare) placed.some pieces in
+        let hunky = hunk-form text p.header.form p.header.at p.span.end p.hunk_spans.items gs (placed.cut.turn bare) placed.some cut in
         let kept : IsKept (kept_hunks are gs) = record {
-          good = kept-all IsGood are gs (all-good text p.header.form 0 p.hunk_spans.items gs hunky pieces);
-          rises = kept-rising 0 are gs (read-rising text p.header.form 0 p.hunk_spans.items gs hunky pieces);
+          good = kept-all IsGood are gs (all-good text p.header.form 0 p.hunk_spans.items gs hunky cut);
+          rises = kept-rising 0 are gs (read-rising text p.header.form 0 p.hunk_spans.items gs hunky cut);
           some = kept-some are gs some long;
         } in
-        hunks-body ways form p.header.form (kept_hunks are gs) kept fits written
-    by (Script s) pieces lawful long lacks fits written = script-body ways form p.header.form (edits_of text s.edits.items) lawful.edits lacks fits written
+        let same : length (pieces text p) ≡ length gs = length-map p.hunk_spans.items (bytes_at text) ∙ each ∙ sym (length-map hs.items (hunk_of text)) in
+        hunks-body ways form p.header.form are (pieces text p) gs same kept fits written
+    by (Script s) cut each lawful long lacks fits written = script-body ways form p.header.form are (pieces text p) (edits_of text s.edits.items) lawful.edits lacks fits written
 
 -- a file patch with these hunks kept makes the same changes again
 pub changes-for : (text : List ℕ) (form : Form) (start before : ℕ) (p : FilePatch) (are : List Bool) → IsPlaced text start before p → IsLawfulChange text p.change → p.header.bare ≡ false

@@ -24,12 +24,12 @@ use Rattle.file_patch.specs.PlainPatch.{PlainChange, hunks, script}
 use Rattle.reading_law.proofs.HeaderLines.{all-reverse}
 use Rattle.reading_law.proofs.Scripts.{script-begins}
 use Rattle.format_convert.specs.Blocks.{Block, Edit, add_at, blocks_in, blocks_of, change_of_block, command_edits, drop_count, drops_from, hunk_edits, script_edits}
-use Rattle.format_convert.specs.Commands.{ed_command, ed_head}
+use Rattle.format_convert.specs.Commands.{command_text, ed_command, ed_head}
 use Rattle.format_convert.specs.Fitting.{changed_lines, falls_back, has_open, is_large_ed, is_unfit}
 use Rattle.format_convert.specs.Fronts.{line_on}
 use Rattle.format_convert.proofs.ScriptLemmas.{drops-more, drops-none}
 use Rattle.format_convert.specs.Refusals.{change_lacks, shows_context}
-use Rattle.format_convert.specs.Converted.{is_written}
+use Rattle.format_convert.specs.Converted.{change_text, is_written}
 use Rattle.reading_law.proofs.Feeds.{NoInner}
 use Rattle.reading_law.proofs.Hunks.{IsGood}
 use Rattle.hunk_core.proofs.TurnedLemmas.{reverse-map}
@@ -146,7 +146,7 @@ last-first bs some = by (reverse bs) refl
     by [] e = absurd (let none : length bs ≡ 0 = sym (length-reverse bs) ∙ ap length e in let bad : not (eqb 0 0) ≡ true = subst (λ n. not (eqb n 0) ≡ true) none some in cc)
     by (b ∷ cs) e = (b, (cs, e))
 
-blocks-body : (ways : Ways) (c : PlainChange) → AllByRecursion IsCommand (blocks_in c) → Apart 0 (blocks_in c) → not (eqb (length (blocks_in c)) 0) ≡ true → Body ways Ed c
+blocks-body : (ways : Ways) (c : PlainChange) → AllByRecursion IsCommand (blocks_in c) → Apart 0 (blocks_in c) → not (eqb (length (blocks_in c)) 0) ≡ true → Body ways Ed c (command_text Ed c)
 blocks-body ways c all apart some =
     let bs : List Block = blocks_in c in
     let own : List (List ℕ) = flat_map command_rows (reverse bs) in
@@ -192,7 +192,7 @@ closed-lines (l ∷ ls) clean e = let both = or_parts (not (ends_line l)) (has_o
     not-no true e = refl
     not-no false e = absurd cc
 
-pub ed-body : (ways : Ways) (hs : List PlainHunk) → AllByRecursion IsGood hs → is_unfit Ed (hunks hs) ≡ false → not (eqb (length (blocks_in (hunks hs))) 0) ≡ true → Body ways Ed (hunks hs)
+pub ed-body : (ways : Ways) (hs : List PlainHunk) → AllByRecursion IsGood hs → is_unfit Ed (hunks hs) ≡ false → not (eqb (length (blocks_in (hunks hs))) 0) ≡ true → Body ways Ed (hunks hs) (command_text Ed (hunks hs))
 ed-body ways hs good fits some =
     let bs : List Block = blocks_in (hunks hs) in
     let inner : Bool = lacks_inner_end (changed_lines Forward hs) || lacks_inner_end (changed_lines Reversed hs) in
@@ -266,11 +266,11 @@ script-whole below (e ∷ es) l =
 pub script-apart : (es : List PlainEdit) → AreLawful (2 ^ 32) es → Apart 0 (blocks_of (script_edits es))
 script-apart es l = blocks-apart (script_edits es) (subst (Climbs 1) (append-nil (script_edits es)) (script-climbs (2 ^ 32) (2 ^ 32) es [] l (omega arith) (omega arith) tt))
 
-pub script-body : (ways : Ways) (form from : Form) (es : List PlainEdit) → AreLawful (2 ^ 32) es → change_lacks form from (script es) ≡ false → (not (shows_context form) && is_unfit form (script es)) ≡ false → is_written form (script es) ≡ true → Body ways form (script es)
-script-body ways Unified from es l lacks fits written = absurd cc
-script-body ways Context from es l lacks fits written = absurd cc
-script-body ways Normal from es l lacks fits written = absurd cc
-script-body ways Ed from es l lacks fits written =
+pub script-body : (ways : Ways) (form from : Form) (are : List Bool) (pieces : List (List ℕ)) (es : List PlainEdit) → AreLawful (2 ^ 32) es → change_lacks form from (script es) ≡ false → (not (shows_context form) && is_unfit form (script es)) ≡ false → is_written form (script es) ≡ true → Body ways form (script es) (change_text form from are pieces (script es))
+script-body ways Unified from are pieces es l lacks fits written = absurd cc
+script-body ways Context from are pieces es l lacks fits written = absurd cc
+script-body ways Normal from are pieces es l lacks fits written = absurd cc
+script-body ways Ed from are pieces es l lacks fits written =
     let bs : List Block = blocks_in (script es) in
     let apart = script-apart es l in
     blocks-body ways (script es)

@@ -12,6 +12,7 @@ mod Kept
 mod Shown
 mod Blocks
 mod EdText
+mod Behind
 mod NormalBody
 mod EdBody
 mod Changes

@@ -16,7 +16,7 @@ use Rattle.normal_form.proofs.Unbroken.{old-lines-are, new-lines-are}
 use Rattle.patch_header.specs.declared.ways.Ways.{Ways}
 use Rattle.file_patch.specs.PlainPatch.{hunks}
 use Rattle.format_convert.specs.Blocks.{Block, blocks_in, hunk_edits}
-use Rattle.format_convert.specs.Commands.{new_first, normal_behind, normal_command, range_start}
+use Rattle.format_convert.specs.Commands.{command_text, new_first, normal_behind, normal_command, range_start}
 use Rattle.format_convert.specs.Fitting.{changed_lines, falls_back, has_large_normal, is_large_normal, is_own, is_unfit, own_lines}
 use Rattle.format_convert.proofs.FitLemmas.{large-cons}
 use Rattle.format_convert.proofs.NormalLemmas.{behind-cons, behind-none}
@@ -190,7 +190,7 @@ changed-clean side (h ∷ hs) good = both-all NoInner (own_lines side h.body) (c
 pub block-lines : (side : Side) (hs : List PlainHunk) → flat_map (lines_by side) (blocks_in (hunks hs)) ≡ changed_lines side hs
 block-lines side hs = blocks-lines side (hunk_edits hs) ∙ hunks-lines side hs
 
-pub normal-body : (ways : Ways) (hs : List PlainHunk) → AllByRecursion IsGood hs → is_unfit Normal (hunks hs) ≡ false → not (eqb (length (blocks_in (hunks hs))) 0) ≡ true → Body ways Normal (hunks hs)
+pub normal-body : (ways : Ways) (hs : List PlainHunk) → AllByRecursion IsGood hs → is_unfit Normal (hunks hs) ≡ false → not (eqb (length (blocks_in (hunks hs))) 0) ≡ true → Body ways Normal (hunks hs) (command_text Normal (hunks hs))
 normal-body ways hs good fits some =
     let bs : List Block = blocks_in (hunks hs) in
     let falls = or_parts (falls_back hs) ((lacks_inner_end (changed_lines Forward hs) || lacks_inner_end (changed_lines Reversed hs)) || has_large_normal 0 0 bs) fits in

@@ -88,11 +88,11 @@ bare-alone : (line : List ℕ) (more : List (List ℕ)) → begins_bare (line �
 unfolding begins_bare
 bare-alone line more h =
     let git : is_git_line line ≡ true = and_left _ _ h in
-    let asks : asks_alone (extended_run more) ≡ true = and_right (not (leads (behind_run more))) _ (and_right (is_git_line line) _ h) in
+    let asks : asks_alone (extended_run more) ≡ true = and_right (not (leads (extended_run more) (behind_run more))) _ (and_right (is_git_line line) _ h) in
     let run = run-again more in (
       git,
-      ap (λ v. v && (not (leads (behind_run (extended_run more ++ []))) && asks_alone (extended_run (extended_run more ++ [])))) git
-          ∙ ap (λ ls. not (leads ls) && asks_alone (extended_run (extended_run more ++ []))) run.1
+      ap (λ v. v && (not (leads (extended_run (extended_run more ++ [])) (behind_run (extended_run more ++ []))) && asks_alone (extended_run (extended_run more ++ [])))) git
+          ∙ ap (λ ls. not (leads (extended_run (extended_run more ++ [])) ls) && asks_alone (extended_run (extended_run more ++ []))) run.1
           ∙ ap asks_alone run.0
           ∙ asks,
     )

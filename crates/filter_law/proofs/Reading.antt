@@ -32,7 +32,7 @@ use Rattle.tool_words.specs.PlainJobs.{PlainFilterJob}
 use Rattle.format_convert.specs.Blocks.{changes}
 use Rattle.format_convert.specs.Taken.{flags, has_kept, left_patch, left_patches}
 use Rattle.format_convert.proofs.Rows.{flags-long}
-use Rattle.format_convert.specs.Converted.{change_text, converted, is_written, rows, written, written_if}
+use Rattle.format_convert.specs.Converted.{change_text, converted, is_written, pieces, rows, written, written_if}
 use Rattle.format_convert.specs.Refusals.{is_unfit, lacks_context, no_context, refusal, unfit}
 use Rattle.format_convert.specs.declared.fault.ConvertFault.{ConvertFault}
 use Rattle.format_convert.proofs.RowLemmas.{converted-is, left-is, refusal-is, row_if}
@@ -69,16 +69,16 @@ ready v whole =
 
 -- ---- one file patch of which something is written
 
-record HasOwn (ways : Ways) (form : Form) (text : List ℕ) (p : FilePatch) (c : PlainChange) : Type 0 where
+record HasOwn (ways : Ways) (form : Form) (text : List ℕ) (p : FilePatch) (c : PlainChange) (bytes : List ℕ) : Type 0 where
   own : List (List ℕ)
   whole : AllByRecursion IsLine own
-  is : header_text text form Forward p.header ++ change_text form c ≡ joined own
+  is : header_text text form Forward p.header ++ bytes ≡ joined own
   reads : IsFilePatch ways own [] (patch_again form (record { header = header_of text p.header; change = c }))
   begins_so : (more : List (List ℕ)) → BeginCleanly (own ++ more)
   dots : list_any (asks_dot ways.only) (region_before ways own) ≡ false
 
-own-of : (ways : Ways) (form : Form) (text : List ℕ) (p : FilePatch) (c : PlainChange) → admits ways.only form ≡ true → HeadedIn text form p.header → Body ways form c → HasOwn ways form text p c
-own-of ways form text p c admitted h b =
+own-of : (ways : Ways) (form : Form) (text : List ℕ) (p : FilePatch) (c : PlainChange) (bytes : List ℕ) → admits ways.only form ≡ true → HeadedIn text form p.header → Body ways form c bytes → HasOwn ways form text p c bytes
+own-of ways form text p c bytes admitted h b =
     let region : List (List ℕ) = head_lines h.heads in
     let again : PlainPatch = patch_again form (record { header = header_of text p.header; change = c }) in
     let reads : IsFilePatch ways (region ++ b.body) [] again = record {
@@ -94,7 +94,7 @@ own-of ways form text p c admitted h b =
     record {
       own = region ++ b.body;
       whole = lines-both region b.body (heads-whole h.heads h.clean) b.whole;
-      is = ap (λ x. x ++ change_text form c) h.is ∙ ap (λ x. joined region ++ x) b.is ∙ sym (flat_map-append (λ (l : List ℕ). l) region b.body);
+      is = ap (λ x. x ++ bytes) h.is ∙ ap (λ x. joined region ++ x) b.is ∙ sym (flat_map-append (λ (l : List ℕ). l) region b.body);
       reads = reads;
       begins_so = λ more. clean-front h.heads b.body more h.some;
       dots = ap (list_any (asks_dot ways.only)) (ap (region_before ways) (sym (append-nil (region ++ b.body))) ∙ region-is ways (region ++ b.body) [] again reads) ∙ no-dots ways h.heads;
@@ -127,6 +127,10 @@ abbrev left_at : PlainFilterJob → List ℕ → ℕ × FilePatch → PlainPatch
 left_at j text r = left_patch j r.0 (patch_of text r.1)
 
 module _ (from ways : Ways) (form : Form) (j : PlainFilterJob) (text : List ℕ) (admitted : admits ways.only form ≡ true) where
+  -- what is written of its change
+  abbrev bytes_at_row : ℕ × FilePatch → List ℕ
+  bytes_at_row r = change_text form r.1.header.form (flags j r.0 (patch_of text r.1)) (pieces text r.1) (patch_of text r.1).change
+
   -- nothing is written of the first one
   skipped : (r : ℕ × FilePatch) (rs : List (ℕ × FilePatch)) → written_if form j text r ≡ [] → flat_map (again_if form) (row_if j text r) ≡ [] → Gathered ways form j text rs → Gathered ways form j text (r ∷ rs)
   skipped r rs bytes none g = record {
@@ -138,9 +142,9 @@ module _ (from ways : Ways) (form : Form) (j : PlainFilterJob) (text : List ℕ)
     begins_so = g.begins_so;
   }
 
-  added : (r : ℕ × FilePatch) (rs : List (ℕ × FilePatch)) (c : PlainChange) → written_if form j text r ≡ header_text text form Forward r.1.header ++ change_text form c
-      → flat_map (again_if form) (row_if j text r) ≡ patch_again form (record { header = header_of text r.1.header; change = c }) ∷ [] → HasOwn ways form text r.1 c → Gathered ways form j text rs → Gathered ways form j text (r ∷ rs)
-  added r rs c bytes one o g =
+  added : (r : ℕ × FilePatch) (rs : List (ℕ × FilePatch)) (c : PlainChange) (text_of : List ℕ) → written_if form j text r ≡ header_text text form Forward r.1.header ++ text_of
+      → flat_map (again_if form) (row_if j text r) ≡ patch_again form (record { header = header_of text r.1.header; change = c }) ∷ [] → HasOwn ways form text r.1 c text_of → Gathered ways form j text rs → Gathered ways form j text (r ∷ rs)
+  added r rs c text_of bytes one o g =
       let again : PlainPatch = patch_again form (record { header = header_of text r.1.header; change = c }) in
       let part : Part = record { own = o.own; patch = again } in
       let these : all_lines (part ∷ g.parts) ≡ o.own ++ all_lines g.parts = flat_map-cons (λ (x : Part). x.own) part g.parts in
@@ -168,21 +172,21 @@ module _ (from ways : Ways) (form : Form) (j : PlainFilterJob) (text : List ℕ)
           let long = flags-long j r.0 (patch_of text r.1) in
           let bare = not-bare text ready.start ready.before r.1 (flags j r.0 (patch_of text r.1)) ready.placed kept long in
           let body = body-for ways text form ready.start ready.before r.1 (flags j r.0 (patch_of text r.1)) ready.placed ready.lawful bare kept long fits.0 fits.1 is in
-          added r rs (left_at j text r).change
-          (ap (λ v. cond v (written form text r.1.header (left_at j text r).change) []) kept ∙ ap (λ v. cond v (header_text text form Forward r.1.header ++ change_text form (left_at j text r).change) []) is)
+          added r rs (left_at j text r).change (bytes_at_row r)
+          (ap (λ v. cond v (written form text r.1.header (flags j r.0 (patch_of text r.1)) (pieces text r.1) (patch_of text r.1).change) []) kept ∙ ap (λ v. cond v (header_text text form Forward r.1.header ++ bytes_at_row r) []) is)
           (ap (flat_map (again_if form)) rows_are ∙ ap (λ v. cond v (patch_again form (left_at j text r) ∷ []) [] ++ []) is)
-          (own-of ways form text r.1 (left_at j text r).change admitted (headed-in from text r.1.header (ready.shown bare) form) body) g
+          (own-of ways form text r.1 (left_at j text r).change (bytes_at_row r) admitted (headed-in from text r.1.header (ready.shown bare) form) body) g
       by-written false is kept =
           let rows_are : row_if j text r ≡ left_at j text r ∷ [] = ap (λ v. cond v (left_at j text r ∷ []) []) kept in
           skipped r rs
-          (ap (λ v. cond v (written form text r.1.header (left_at j text r).change) []) kept ∙ ap (λ v. cond v (header_text text form Forward r.1.header ++ change_text form (left_at j text r).change) []) is)
+          (ap (λ v. cond v (written form text r.1.header (flags j r.0 (patch_of text r.1)) (pieces text r.1) (patch_of text r.1).change) []) kept ∙ ap (λ v. cond v (header_text text form Forward r.1.header ++ bytes_at_row r) []) is)
           (ap (flat_map (again_if form)) rows_are ∙ ap (λ v. cond v (patch_again form (left_at j text r) ∷ []) [] ++ []) is) g
 
       by-kept : (v : Bool) → has_kept j r.0 (patch_of text r.1) ≡ v → Gathered ways form j text (r ∷ rs)
       by-kept true kept = by-written (is_written form (left_at j text r).change) refl kept
       by-kept false kept =
           skipped r rs
-          (ap (λ v. cond v (written form text r.1.header (left_at j text r).change) []) kept)
+          (ap (λ v. cond v (written form text r.1.header (flags j r.0 (patch_of text r.1)) (pieces text r.1) (patch_of text r.1).change) []) kept)
           (ap (λ v. flat_map (again_if form) (cond v (left_at j text r ∷ []) [])) kept) g
 
   gather : (rs : List (ℕ × FilePatch)) → AllByRecursion (λ (r : ℕ × FilePatch). IsReady from text r.1) rs → AllByRecursion (IsFit form) (flat_map (row_if j text) rs) → Gathered ways form j text rs

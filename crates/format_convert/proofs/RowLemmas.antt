@@ -1,15 +1,16 @@
 -- The file patches of a set with their numbers, from 0.
 use Rattle.std.proofs.Common.{map, ◌⊎◌, inl, inr, ◌*◌, ◌^◌, not, Fits, w32, w64, ◌≡◌, ℕ, zero, suc, ◌+◌, ◌<◌, ◌≤◌, Bool, true, false, ◌&&◌, cond, List, [], ◌∷◌, ◌++◌, length, get_or, drop, Option, None, Some, refl, sym, ap, subst, ◌∙◌, arith}
-use Rattle.std.specs.Prelude.{find, option_map}
+use Rattle.std.specs.Prelude.{find, option_map, slice_get}
 use Rattle.std.specs.List.{flat_map, range_with_len, zip}
 use Rattle.std.specs.Option.{option_or}
 use Rattle.std.proofs.lemmas.List.{append-nil, at_drop_more, drop_all, length-map}
 use Rattle.std.proofs.lemmas.Grind.{flat_map-append}
 use Rattle.std.proofs.lemmas.List.Concat.{flat_map-cons}
-use Rattle.std.proofs.lemmas.Option.{get_or_from_slice_get, slice_get-get_or}
+use Rattle.std.proofs.lemmas.Option.{get_or_from_slice_get, slice_get-get_or, slice_get-map}
 use Rattle.hunk_core.specs.declared.Form.{Form}
 use Rattle.hunk_core.specs.declared.Hunk.{Hunk}
-use Rattle.hunk_core.specs.PlainHunk.{PlainHunk, hunk_of, hunks_of}
+use Rattle.line_list.specs.declared.Span.{Span}
+use Rattle.hunk_core.specs.PlainHunk.{PlainHunk, bytes_at, hunk_of, hunks_of}
 use Rattle.file_patch.specs.declared.FilePatch.{FilePatch}
 use Rattle.file_patch.specs.declared.Change.{Change}
 use Rattle.file_patch.specs.declared.Change.TheVariants.{Hunks, Script}
@@ -19,12 +20,11 @@ use Rattle.patch_set.proofs.Named.{rows-counted}
 use Rattle.filter_choice.specs.Kept.{keeps}
 use Rattle.filter_choice.proofs.Rows.{zip-at, zip-count}
 use Rattle.tool_words.specs.PlainJobs.{PlainFilterJob}
-use Rattle.format_convert.specs.Taken.{flags, has_kept, hunk_if, left_change, left_patch, left_patches, patch_if}
+use Rattle.format_convert.specs.Taken.{flags, has_kept, left_change, left_patch, left_patches, patch_if}
 use Rattle.format_convert.specs.Walk.{IsHunks}
 use Rattle.format_convert.proofs.Rows.{flag-at, flags-long}
 use Rattle.line_list.proofs.Elements.{found, behind, numbered-from, numbered-long}
-use Rattle.patch_header.specs.Written.{hunk_text}
-use Rattle.format_convert.specs.Converted.{change_text, converted, hunk_texts, rows, written_if}
+use Rattle.format_convert.specs.Converted.{change_text, converted, hunk_texts, piece_if, pieces, rows, told, written_if}
 use Rattle.format_convert.specs.Commands.{command_text}
 use Rattle.hunk_core.specs.declared.Form.TheVariants.{Unified, Context, Normal, Ed}
 use Rattle.format_convert.specs.Refusals.{change_lacks, is_unfit, lacks_context, no_context, refusal, shows_context, unfit}
@@ -99,17 +99,17 @@ lacks-left wanted j n p = lacks-change wanted p.header.form _ p.change
 
 -- ---- one file patch
 
-pub by-context : (form : Form) (c : PlainChange) → shows_context form ≡ true → hunk_texts (hunk_text form) c ≡ change_text form c
-by-context Unified c is = refl
-by-context Context c is = refl
-by-context Normal c is = absurd cc
-by-context Ed c is = absurd cc
+pub by-context : (form from : Form) (are : List Bool) (ts : List (List ℕ)) (c : PlainChange) → shows_context form ≡ true → hunk_texts form from are ts c ≡ change_text form from are ts c
+by-context Unified from are ts c is = refl
+by-context Context from are ts c is = refl
+by-context Normal from are ts c is = absurd cc
+by-context Ed from are ts c is = absurd cc
 
-pub by-commands : (form : Form) (c : PlainChange) → shows_context form ≡ false → command_text form c ≡ change_text form c
-by-commands Unified c is = absurd cc
-by-commands Context c is = absurd cc
-by-commands Normal c is = refl
-by-commands Ed c is = refl
+pub by-commands : (form from : Form) (are : List Bool) (ts : List (List ℕ)) (c : PlainChange) → shows_context form ≡ false → command_text form (left_change are c) ≡ change_text form from are ts c
+by-commands Unified from are ts c is = absurd cc
+by-commands Context from are ts c is = absurd cc
+by-commands Normal from are ts c is = refl
+by-commands Ed from are ts c is = refl
 
 pub and-false : (b : Bool) → (b && false) ≡ false
 and-false true = refl
@@ -123,26 +123,39 @@ pair-row {A = A} fs xs i x same lt is =
     at_drop_more (λ ys. ys) (zip fs xs) i d (omega (arith, lt, zip-count fs xs same))
     ∙ ap (λ y. y ∷ drop (i + 1) (zip fs xs)) (get_or_from_slice_get (zip fs xs) i d d (zip-at fs xs i _ _ (slice_get-get_or fs i false (omega (arith, lt, same))) (found xs i x lt is)))
 
+-- a hunk behind its lines
+abbrev pub Piece : Type 0
+Piece = List ℕ × PlainHunk
+
 hunk-at : (text : List ℕ) (hs : List Hunk) (i : ℕ) (h : Hunk) → i < length hs → h ≡ get_or hs i h → hunk_of text h ≡ get_or (hunks_of text hs) i (hunk_of text h)
 hunk-at text [] i h lt is = absurd (omega (arith, lt))
 hunk-at text (x ∷ hs) zero h lt is = ap (hunk_of text) is
 hunk-at text (x ∷ hs) (suc i) h lt is = hunk-at text hs i h (omega (arith, lt)) is
 
-text-row : (T : PlainHunk → List ℕ) (b : Bool) (h : PlainHunk) → flat_map T (hunk_if (b, h)) ≡ cond b (T h) []
+text-row : (T : Piece → List ℕ) (b : Bool) (h : Piece) → flat_map T (piece_if (b, h)) ≡ cond b (T h) []
 text-row T true h = flat_map-cons T h [] ∙ append-nil (T h)
 text-row T false h = refl
 
 -- the kept hunks from one on
-abbrev pub kept_from : (PlainHunk → List ℕ) → List Bool → List PlainHunk → ℕ → List ℕ
-kept_from T fs hs i = flat_map T (flat_map hunk_if (drop i (zip fs hs)))
+abbrev pub kept_from : (Piece → List ℕ) → List Bool → List Piece → ℕ → List ℕ
+kept_from T fs hs i = flat_map T (flat_map piece_if (drop i (zip fs hs)))
 
-kept-next : (T : PlainHunk → List ℕ) (fs : List Bool) (hs : List PlainHunk) (i : ℕ) (h : PlainHunk) → length fs ≡ length hs → i < length hs → h ≡ get_or hs i h
+kept-next : (T : Piece → List ℕ) (fs : List Bool) (hs : List Piece) (i : ℕ) (h : Piece) → length fs ≡ length hs → i < length hs → h ≡ get_or hs i h
     → kept_from T fs hs i ≡ cond (get_or fs i false) (T h) [] ++ kept_from T fs hs (i + 1)
 kept-next T fs hs i h same lt is =
-    ap (λ rs. flat_map T (flat_map hunk_if rs)) (pair-row fs hs i h same lt is)
-    ∙ ap (flat_map T) (flat_map-cons hunk_if (get_or fs i false, h) (drop (i + 1) (zip fs hs)))
-    ∙ flat_map-append T (hunk_if (get_or fs i false, h)) (flat_map hunk_if (drop (i + 1) (zip fs hs)))
+    ap (λ rs. flat_map T (flat_map piece_if rs)) (pair-row fs hs i h same lt is)
+    ∙ ap (flat_map T) (flat_map-cons piece_if (get_or fs i false, h) (drop (i + 1) (zip fs hs)))
+    ∙ flat_map-append T (piece_if (get_or fs i false, h)) (flat_map piece_if (drop (i + 1) (zip fs hs)))
     ∙ ap (λ t. t ++ kept_from T fs hs (i + 1)) (text-row T (get_or fs i false) h)
+
+piece-row : (ts : List (List ℕ)) (hs : List PlainHunk) (i : ℕ) (h : PlainHunk) → length ts ≡ length hs → i < length hs → h ≡ get_or hs i h → (get_or ts i [], h) ≡ get_or (zip ts hs) i (get_or ts i [], h)
+piece-row ts [] i h same lt is = absurd (omega (arith, lt))
+piece-row [] (x ∷ hs) i h same lt is = absurd (omega (arith, same))
+piece-row (t ∷ ts) (x ∷ hs) zero h same lt is = ap (λ (y : PlainHunk). (t, y)) is
+piece-row (t ∷ ts) (x ∷ hs) (suc i) h same lt is = piece-row ts hs i h (omega (arith, same)) (omega (arith, lt)) is
+
+pub piece-at : (text : List ℕ) (p : FilePatch) (i : ℕ) (s : Span) → slice_get p.hunk_spans.items i ≡ Some s → get_or (pieces text p) i [] ≡ bytes_at text s
+piece-at text p i s is = get_or_from_slice_get (pieces text p) i (bytes_at text s) [] (slice_get-map (bytes_at text) p.hunk_spans.items i ∙ ap (option_map (bytes_at text)) is)
 
 pub rows-of : (ch : Change) (own : List Hunk) → IsHunks ch own → row_count ch ≡ length own
 rows-of (Hunks hs) own is = ap length is
@@ -152,18 +165,30 @@ module _ (j : PlainFilterJob) (n : ℕ) (text : List ℕ) (p : FilePatch) (own :
   count-is : hunk_count (patch_of text p).change ≡ length own
   count-is = rows-counted text p.change ∙ rows-of p.change own is
 
-  same-long : length (flags j n (patch_of text p)) ≡ length (hunks_of text own)
-  same-long = flags-long j n (patch_of text p) ∙ count-is ∙ sym (length-map own (hunk_of text))
+  -- with as many pieces as hunks
+  module _ (each : length p.hunk_spans.items ≡ row_count p.change) where
+    abbrev own_rows : List Piece
+    own_rows = zip (pieces text p) (hunks_of text own)
 
-  -- the next hunk, if it is kept
-  pub next-hunk : (T : PlainHunk → List ℕ) (i : ℕ) (h : Hunk) → i < length own → h ≡ get_or own i h
-      → kept_from T (flags j n (patch_of text p)) (hunks_of text own) i ≡ cond (keeps j n (patch_of text p) i) (T (hunk_of text h)) [] ++ kept_from T (flags j n (patch_of text p)) (hunks_of text own) (i + 1)
-  next-hunk T i h lt at =
-      kept-next T (flags j n (patch_of text p)) (hunks_of text own) i (hunk_of text h) same-long (omega (arith, lt, length-map own (hunk_of text))) (hunk-at text own i h lt at)
-      ∙ ap (λ b. cond b (T (hunk_of text h)) [] ++ kept_from T (flags j n (patch_of text p)) (hunks_of text own) (i + 1)) (flag-at j n (patch_of text p) i false (omega (arith, lt, count-is)))
+    pieces-long : length (pieces text p) ≡ length (hunks_of text own)
+    pieces-long = length-map p.hunk_spans.items (bytes_at text) ∙ each ∙ rows-of p.change own is ∙ sym (length-map own (hunk_of text))
 
-  pub last-hunk : (T : PlainHunk → List ℕ) (i : ℕ) → length own ≤ i → kept_from T (flags j n (patch_of text p)) (hunks_of text own) i ≡ []
-  last-hunk T i le = ap (λ rs. flat_map T (flat_map hunk_if rs)) (drop_all i (zip (flags j n (patch_of text p)) (hunks_of text own)) (omega (arith, le, zip-count (flags j n (patch_of text p)) (hunks_of text own) same-long, same-long, length-map own (hunk_of text))))
+    rows-count : length (zip (pieces text p) (hunks_of text own)) ≡ length own
+    rows-count = zip-count (pieces text p) (hunks_of text own) pieces-long ∙ length-map own (hunk_of text)
+
+    flags-same : length (flags j n (patch_of text p)) ≡ length (zip (pieces text p) (hunks_of text own))
+    flags-same = flags-long j n (patch_of text p) ∙ count-is ∙ sym rows-count
+
+    -- the next hunk, if it is kept
+    pub next-hunk : (T : Piece → List ℕ) (i : ℕ) (h : Hunk) → i < length own → h ≡ get_or own i h
+        → kept_from T (flags j n (patch_of text p)) own_rows i ≡ cond (keeps j n (patch_of text p) i) (T (get_or (pieces text p) i [], hunk_of text h)) [] ++ kept_from T (flags j n (patch_of text p)) own_rows (i + 1)
+    next-hunk T i h lt at =
+        let low : i < length (hunks_of text own) = omega (arith, lt, length-map own (hunk_of text)) in
+        kept-next T (flags j n (patch_of text p)) own_rows i (get_or (pieces text p) i [], hunk_of text h) flags-same (omega (arith, lt, rows-count)) (piece-row (pieces text p) (hunks_of text own) i (hunk_of text h) pieces-long low (hunk-at text own i h lt at))
+        ∙ ap (λ b. cond b (T (get_or (pieces text p) i [], hunk_of text h)) [] ++ kept_from T (flags j n (patch_of text p)) own_rows (i + 1)) (flag-at j n (patch_of text p) i false (omega (arith, lt, count-is)))
+
+    pub last-hunk : (T : Piece → List ℕ) (i : ℕ) → length own ≤ i → kept_from T (flags j n (patch_of text p)) own_rows i ≡ []
+    last-hunk T i le = ap (λ rs. flat_map T (flat_map piece_if rs)) (drop_all i (zip (flags j n (patch_of text p)) own_rows) (omega (arith, le, zip-count (flags j n (patch_of text p)) own_rows flags-same, flags-same, rows-count)))
 
 -- the hunks of a lawful change
 pub are-lawful : (text : List ℕ) (ch : Change) (own : List Hunk) → IsHunks ch own → IsLawfulChange text ch → AreLawfulHunks text own
@@ -207,9 +232,9 @@ pub none-misfit : (k s u : Bool) → s ≡ true → false ≡ (k && (not s && u)
 none-misfit k s u shown = and-none k (not s && u) (ap (λ x. not x && u) shown)
 
 -- the forms of commands have no text of a hunk
-pub no-text : (form : Form) (h : PlainHunk) → (form ≡ Normal) ⊎ (form ≡ Ed) → hunk_text form h ≡ []
-no-text form h (inl is) = ap (λ (f : Form). hunk_text f h) is
-no-text form h (inr is) = ap (λ (f : Form). hunk_text f h) is
+pub no-text : (form from : Form) (x : Piece) → (form ≡ Normal) ⊎ (form ≡ Ed) → told form from x ≡ []
+no-text form from x (inl is) = ap (λ (f : Form). told f from x) is
+no-text form from x (inr is) = ap (λ (f : Form). told f from x) is
 
 -- what is written where both hold
 pub both-hold : (a b : Bool) (text : List ℕ) → a ≡ true → b ≡ true → text ≡ cond a (cond b text []) []

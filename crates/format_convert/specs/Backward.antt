@@ -1,8 +1,6 @@
 -- What is written of blocks while edits come in front of them, one after the other from the last one.
-use Rattle.std.specs.Prelude.{◌≡◌, ℕ, Bool, List, [], ◌∷◌, ◌++◌, drop, if◌then◌else◌}
-use Rattle.std.specs.List.{flat_map}
+use Rattle.std.specs.Prelude.{◌≡◌, ℕ, List, [], ◌∷◌, ◌++◌, drop, if◌then◌else◌}
 use Rattle.hunk_core.specs.declared.Mark.{Mark}
-use Rattle.hunk_core.specs.PlainHunk.{hunk_of}
 use Rattle.hunk_core.specs.Turned.{is_keep}
 use Rattle.format_convert.specs.Blocks.{Edit, Block, behind, blocks_of}
 use Rattle.format_convert.specs.Commands.{ed_command, ed_text}

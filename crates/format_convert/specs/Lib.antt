@@ -9,3 +9,4 @@ pub mod Fronts
 pub mod Backward
 pub mod Seeing
 pub mod Runs
+pub mod Behind

@@ -11,7 +11,7 @@ use Rattle.file_patch.specs.PlainPatch.{AreLawfulHunks, hunks, change_of, patch_
 use Rattle.patch_set.specs.SetView.{patch_at}
 use Rattle.tool_words.specs.PlainJobs.{plain_filter_job}
 use Rattle.format_convert.specs.Taken.{flags, hunk_if, kept_hunks}
-use Rattle.format_convert.specs.Blocks.{Edit, Block, blocks_of, body_edits}
+use Rattle.format_convert.specs.Blocks.{Edit, blocks_of, body_edits}
 use Rattle.format_convert.specs.Fronts.{front, front_block, front_rest}
 use Rattle.format_convert.specs.declared.kept.Kept.{Kept}
 use Rattle.format_convert.specs.declared.place.LineEdit.{LineEdit}

@@ -5,6 +5,7 @@
 //! after a failure the sink received a first part.
 #![tactic(auto)]
 
+mod behind;
 mod block;
 mod commands;
 mod convert;

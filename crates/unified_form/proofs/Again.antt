@@ -111,7 +111,7 @@ is-hunk h e clean = let k = kept h e in record { ranges = fair h k; body = lines
 
 -- ---- whatever is spelled begins with the hunk
 
-begins-with : (h : PlainHunk) (own rest : List (List ℕ)) (number next : ℕ) (hs : List PlainHunk) (behind : List (List ℕ)) → SpellsHunk 0 own h → after_backslash rest ≡ None → IsPiece number (own ++ rest) hs next behind → (others : List PlainHunk) × (hs ≡ h ∷ others)
+pub begins-with : (h : PlainHunk) (own rest : List (List ℕ)) (number next : ℕ) (hs : List PlainHunk) (behind : List (List ℕ)) → SpellsHunk 0 own h → after_backslash rest ≡ None → IsPiece number (own ++ rest) hs next behind → (others : List PlainHunk) × (hs ≡ h ∷ others)
 begins-with h own rest number next hs behind s quiet piece = reads_first begins_hunk hunk_at SpellsIn grammar h own rest number (hs, ahead next behind) s quiet (reading_again number (own ++ rest) hs next behind piece)
 
 pub spells-first : (h : PlainHunk) (rest : List ℕ) → first_broken h ≡ None → AllByRecursion HasNoInnerFeed h.body → after_backslash (lines rest) ≡ None → SpellsFirst h (canonical h) rest

@@ -94,7 +94,7 @@ no-feed (d ∷ ds) h = (not_feed d h.0, no-feed ds h.1)
     not_feed : (b : ℕ) → is_digit b ≡ true → b ≢ 10
     not_feed b is e = let ten : is_digit 10 ≡ true = subst (λ (x : ℕ). is_digit x ≡ true) e is in cc
 
-both : (xs ys : List ℕ) → AllByRecursion (λ b. b ≢ 10) xs → AllByRecursion (λ b. b ≢ 10) ys → AllByRecursion (λ b. b ≢ 10) (xs ++ ys)
+pub both : (xs ys : List ℕ) → AllByRecursion (λ b. b ≢ 10) xs → AllByRecursion (λ b. b ≢ 10) ys → AllByRecursion (λ b. b ≢ 10) (xs ++ ys)
 both [] ys h k = k
 both (x ∷ xs) ys h k = (h.0, both xs ys h.1 k)
 
@@ -103,18 +103,18 @@ closes [] h = refl
 closes (b ∷ []) h = (h.0, refl)
 closes (b ∷ c ∷ bs) h = (h.0, closes (c ∷ bs) h.1)
 
-range-clean : (start count : ℕ) → AllByRecursion (λ b. b ≢ 10) (range_text start count)
+pub range-clean : (start count : ℕ) → AllByRecursion (λ b. b ≢ 10) (range_text start count)
 range-clean start count =
     elim (chosen (eqb count 1) (decimal start) (decimal start ++ 44 ∷ decimal count) _ refl) [
       | inl one ↦ subst (λ t. AllByRecursion (λ b. b ≢ 10) t) one.1 (no-feed (decimal start) (decimal-numeral start).digits)
       | inr many ↦ subst (λ t. AllByRecursion (λ b. b ≢ 10) t) many.1 (both (decimal start) (44 ∷ decimal count) (no-feed (decimal start) (decimal-numeral start).digits) ((λ e. cc), no-feed (decimal count) (decimal-numeral count).digits))
     ]
 
-line-prefix : (xs ys : List ℕ) → AllByRecursion (λ b. b ≢ 10) xs → IsLine ys → IsLine (xs ++ ys)
+pub line-prefix : (xs ys : List ℕ) → AllByRecursion (λ b. b ≢ 10) xs → IsLine ys → IsLine (xs ++ ys)
 line-prefix [] ys h k = k
 line-prefix (x ∷ xs) ys h k = longer x (xs ++ ys) h.0 (line-prefix xs ys h.1 k)
 
-clean : (bs : List ℕ) → is_clean bs ≡ true → AllByRecursion (λ b. b ≢ 10) bs
+pub clean : (bs : List ℕ) → is_clean bs ≡ true → AllByRecursion (λ b. b ≢ 10) bs
 clean [] e = tt
 clean (b ∷ bs) e =
     elim (chosen (eqb b 10) false (is_clean bs) true e) [
@@ -142,7 +142,7 @@ line-lines : (m : Marked) (body : List Marked) → IsLine m.line ⊎ (AllByRecur
 line-lines m body (inl h) = subst (λ (b : Bool). AreLines (cond b ((mark_byte m.mark ∷ m.line) ∷ []) ((mark_byte m.mark ∷ (m.line ++ 10 ∷ [])) ∷ no_newline ∷ []))) (sym (line-ends m.line h)) (longer (mark_byte m.mark) m.line (mark-clean m.mark) h, tt)
 line-lines m body (inr h) = subst (λ (b : Bool). AreLines (cond b ((mark_byte m.mark ∷ m.line) ∷ []) ((mark_byte m.mark ∷ (m.line ++ 10 ∷ [])) ∷ no_newline ∷ []))) (sym (no-end m.line h.0)) (longer (mark_byte m.mark) (m.line ++ 10 ∷ []) (mark-clean m.mark) (closes m.line h.0), (no-newline-line, tt))
 
-body-lines : (body : List Marked) → LinesFit body → AreLines (body_lines body)
+pub body-lines : (body : List Marked) → LinesFit body → AreLines (body_lines body)
 body-lines [] h = tt
 body-lines (m ∷ body) h = lines-both (line_lines m) (body_lines body) (line-lines m body h.0) (body-lines body h.1)
 
@@ -155,7 +155,7 @@ line-joined m = by (ends_line m.line)
     by true = flat_map-cons (λ line. line) (mark_byte m.mark ∷ m.line) []
     by false = flat_map-cons (λ line. line) (mark_byte m.mark ∷ (m.line ++ 10 ∷ [])) (no_newline ∷ []) ∙ ap (λ bs. mark_byte m.mark ∷ bs) (append_assoc m.line (10 ∷ []) no_newline)
 
-body-joined : (body : List Marked) → flat_map (λ line. line) (body_lines body) ≡ flat_map line_text body
+pub body-joined : (body : List Marked) → flat_map (λ line. line) (body_lines body) ≡ flat_map line_text body
 body-joined [] = refl
 body-joined (m ∷ body) =
     flat_map-append (λ line. line) (line_lines m) (body_lines body) ∙ ap (λ bs. bs ++ flat_map (λ line. line) (body_lines body)) (line-joined m) ∙ ap (λ bs. line_text m ++ bs) (body-joined body)

@@ -24,6 +24,18 @@ line_text m = mark_byte m.mark ∷ (m.line ++ (if ends_line m.line then [] else 
 abbrev pub canonical : PlainHunk → List ℕ
 canonical h = range_line_text h.old_start (counts_of h.body).old h.new_start (counts_of h.body).new ++ flat_map line_text h.body
 
+-- ---- a hunk with a text behind its ranges
+
+-- '@@ -', the old range, ' +', the new range, ' @@'
+abbrev pub ranges_text : ℕ → ℕ → ℕ → ℕ → List ℕ
+ranges_text old_start old_count new_start new_count = (64 ∷ 64 ∷ 32 ∷ 45 ∷ []) ++ (range_text old_start old_count ++ ((32 ∷ 43 ∷ []) ++ (range_text new_start new_count ++ (32 ∷ 64 ∷ 64 ∷ []))))
+
+-- what is written of a hunk, with this text behind its ranges
+abbrev pub shown : List ℕ → PlainHunk → List ℕ
+shown behind h = (ranges_text h.old_start (counts_of h.body).old h.new_start (counts_of h.body).new ++ (behind ++ 10 ∷ [])) ++ flat_map line_text h.body
+
+-- ---- a hunk that is read again
+
 -- what was written spells the hunk before this rest, and whatever hunks the whole spells begin with it
 pub record SpellsFirst (h : PlainHunk) (written rest : List ℕ) : Type 0 where
   pub own : List (List ℕ)

@@ -73,7 +73,7 @@ fn add_number(gathered: &mut ArrayVec<u8, 96>, value: u32)
     add_piece(gathered, &digits[..len]);
 }
 
-fn add_range(gathered: &mut ArrayVec<u8, 96>, start: u32, count: u32)
+pub fn add_range(gathered: &mut ArrayVec<u8, 96>, start: u32, count: u32)
     requires { length gathered.old.items + 41 ≤ 96 }
     ensures text { gathered.new.items ≡ gathered.old.items ++ range_text start count }
     ensures few { length gathered.new.items ≤ length gathered.old.items + 41 }
@@ -101,7 +101,7 @@ fn put_range_line<O: Sink>(
     put_all(out, gathered.as_slice())
 }
 
-fn put_body<O: Sink>(out: &mut O, hunk: &Hunk, text: &[u8], side: Side) -> Result<(), Failed>
+pub fn put_body<O: Sink>(out: &mut O, hunk: &Hunk, text: &[u8], side: Side) -> Result<(), Failed>
     requires { IsLawful text.now hunk.now }
     ensures { Puts O.view O.same_rest out.old out.new result (flat_map line_text (map (taken_line side) (body_of text.now hunk.now.body.items))) }
 {

@@ -14,4 +14,4 @@ pub add_piece-requires-3 : goal.add_piece-requires-3
 add_piece-requires-3 c = (omega arith, omega (arith, c.requires, simp length-append at (ap length c.add_piece.ensures), ap length c.before-2.ensures ∙ before-length c.args.part, c.add_span.ensures.few, simp length-append at (ap length c.add_piece-2.ensures), ap length c.behind.ensures ∙ behind-length c.args.part))
 
 pub returns : goal.returns
-returns c = four-pieces c.args.gathered.now.items (before_range c.args.part) (span_text c.args.start c.args.count) (behind_range c.args.part) (10 ∷ []) _ _ _ _ (c.add_piece.ensures ∙ ap (λ xs. c.args.gathered.now.items ++ xs) c.before-2.ensures) c.add_span.ensures.text (c.add_piece-2.ensures ∙ ap (λ xs. c.add_span.new.gathered.items ++ xs) c.behind.ensures) c.add_piece-3.ensures
+returns c = four-pieces c.args.gathered.now.items (before_range c.args.part) (span_text c.args.start c.args.count) (32 ∷ behind_range c.args.part) (10 ∷ []) _ _ _ _ (c.add_piece.ensures ∙ ap (λ xs. c.args.gathered.now.items ++ xs) c.before-2.ensures) c.add_span.ensures.text (c.add_piece-2.ensures ∙ ap (λ xs. c.add_span.new.gathered.items ++ xs) c.behind.ensures) c.add_piece-3.ensures

@@ -1,4 +1,4 @@
-use Rattle.std.proofs.Common.{◌+◌, ◌<◌, ◌≤◌, ℕ, [], cond, length, sym, subst}
+use Rattle.std.proofs.Common.{◌+◌, ◌<◌, ◌≤◌, ℕ, [], cond, get_or, length, sym, subst}
 use Rattle.std.proofs.lemmas.Result.{err_from_is_err_and}
 use Rattle.hunk_core.specs.declared.Hunk.{Hunk}
 use Rattle.hunk_core.specs.PlainHunk.{hunk_of, hunks_of}
@@ -8,7 +8,8 @@ use Rattle.filter_choice.specs.Kept.{keeps}
 use Rattle.tool_words.specs.PlainJobs.{plain_filter_job}
 use Rattle.format_convert.specs.Taken.{flags}
 use Rattle.format_convert.proofs.Parts.{written-all, written-more, written-none, written-stop}
-use Rattle.patch_header.specs.Written.{hunk_text}
+use Rattle.std.specs.List.{zip}
+use Rattle.format_convert.specs.Converted.{pieces, told}
 use Rattle.format_convert.proofs.RowLemmas.{kept_from, last-hunk, next-hunk, rows-of, number-fits, offset-fits}
 use Rattle.format_convert.proofs.hunks.put_each.Goals as goal
 
@@ -35,9 +36,9 @@ loop-number-preserved g c = λ x at.
     let i = c.loop-number.number in
     let h = c.index-hunks-number.result in
     let lt : c.loop-number.number < length c.args.hunks.now = c.loop-number-test.true in
-    written-more g.met.O.Sink.rest_both (c.loop-number.invariant x at) (cond (keeps j n (patch_of text x) i) (hunk_text c.args.form (hunk_of text h)) [])
-    (kept_from (hunk_text c.args.form) (flags j n (patch_of text x)) (hunks_of text own) (i + 1))
-    (next-hunk j n text x own (c.requires.hunks x at) (hunk_text c.args.form) i h lt c.index-hunks-number.is)
+    written-more g.met.O.Sink.rest_both (c.loop-number.invariant x at) (cond (keeps j n (patch_of text x) i) (told c.args.form x.header.form (get_or (pieces text x) i [], hunk_of text h)) [])
+    (kept_from (told c.args.form x.header.form) (flags j n (patch_of text x)) (zip (pieces text x) (hunks_of text own)) (i + 1))
+    (next-hunk j n text x own (c.requires.hunks x at) (c.requires.spans x at) (told c.args.form x.header.form) i h lt c.index-hunks-number.is)
     c.in_ok-put_if_kept.field-0 (c.in_ok-put_if_kept.ensures x at)
 
 pub returns-in_err-put_if_kept : goal.returns-in_err-put_if_kept
@@ -50,15 +51,15 @@ returns-in_err-put_if_kept g c = λ x at.
     let i = c.loop-number.number in
     let h = c.index-hunks-number.result in
     let lt : c.loop-number.number < length c.args.hunks.now = c.loop-number-test.true in
-    rw p.1 (written-stop g.met.O.Sink.rest_both (c.loop-number.invariant x at) (cond (keeps j n (patch_of text x) i) (hunk_text c.args.form (hunk_of text h)) [])
-    (kept_from (hunk_text c.args.form) (flags j n (patch_of text x)) (hunks_of text own) (i + 1))
-    (next-hunk j n text x own (c.requires.hunks x at) (hunk_text c.args.form) i h lt c.index-hunks-number.is)
+    rw p.1 (written-stop g.met.O.Sink.rest_both (c.loop-number.invariant x at) (cond (keeps j n (patch_of text x) i) (told c.args.form x.header.form (get_or (pieces text x) i [], hunk_of text h)) [])
+    (kept_from (told c.args.form x.header.form) (flags j n (patch_of text x)) (zip (pieces text x) (hunks_of text own)) (i + 1))
+    (next-hunk j n text x own (c.requires.hunks x at) (c.requires.spans x at) (told c.args.form x.header.form) i h lt c.index-hunks-number.is)
     c.in_err-put_if_kept.field-0.0 p.0 (c.in_err-put_if_kept.ensures x at))
 
 pub returns : goal.returns
 returns g c = λ x at.
     let le : length c.args.hunks.now ≤ c.loop-number.number = c.loop-number-test.false in
-    written-all _ (c.loop-number.invariant x at) (last-hunk (plain_filter_job c.args.job.now) c.args.patch c.args.set.now.text x c.args.hunks.now (c.requires.hunks x at) (hunk_text c.args.form) c.loop-number.number le)
+    written-all _ (c.loop-number.invariant x at) (last-hunk (plain_filter_job c.args.job.now) c.args.patch c.args.set.now.text x c.args.hunks.now (c.requires.hunks x at) (c.requires.spans x at) (told c.args.form x.header.form) c.loop-number.number le)
 
 pub put_if_kept-requires-clause-within : goal.put_if_kept-requires-clause-within
 put_if_kept-requires-clause-within g c = c.requires.within

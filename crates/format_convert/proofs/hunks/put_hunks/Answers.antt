@@ -1,16 +1,15 @@
-use Rattle.std.proofs.Common.{ℕ, List, sym, ap, subst, ◌∙◌}
-use Rattle.std.specs.List.{flat_map}
+use Rattle.std.proofs.Common.{◌≡◌, ℕ, List, length, sym, ap, subst, ◌∙◌}
+use Rattle.std.specs.List.{flat_map, zip}
 use Rattle.std.proofs.lemmas.Option.{same_Some}
 use Rattle.hunk_core.specs.declared.Hunk.{Hunk}
 use Rattle.hunk_core.specs.PlainHunk.{hunks_of}
 use Rattle.outside.specs.Puts.{Puts}
 use Rattle.file_patch.specs.declared.Change.{Change}
 use Rattle.file_patch.specs.declared.FilePatch.{FilePatch}
-use Rattle.file_patch.specs.PlainPatch.{change_of, patch_of}
+use Rattle.file_patch.specs.PlainPatch.{change_of, patch_of, row_count}
 use Rattle.tool_words.specs.PlainJobs.{plain_filter_job}
-use Rattle.format_convert.specs.Taken.{flags, kept_hunks, left_change}
-use Rattle.patch_header.specs.Written.{hunk_text}
-use Rattle.format_convert.specs.Converted.{hunk_texts}
+use Rattle.format_convert.specs.Taken.{flags}
+use Rattle.format_convert.specs.Converted.{hunk_texts, kept_pieces, pieces, told}
 use Rattle.outside.proofs.SinkSteps.{HasPut, has-none, puts-done}
 use Rattle.format_convert.specs.Walk.{IsHunks}
 use Rattle.format_convert.proofs.RowLemmas.{are-lawful}
@@ -23,8 +22,8 @@ returns-in-Hunks g c = λ x at.
     let same = same_Some c.patch_at.result.now x (sym c.patch_at.ensures.is ∙ at) in
     let row = ap (λ (y : FilePatch). y.change) (sym same) ∙ c.in-Hunks.is in
     subst (λ (bs : List ℕ). Puts g.O.Sink.view g.O.Sink.same_rest c.args.out.now c.put_each.new.out c.put_each.result bs)
-    (ap (λ (hs : List Hunk). flat_map (hunk_text c.args.form) (kept_hunks are (hunks_of text hs))) c.deref.ensures.value
-    ∙ sym (ap (λ (ch : Change). hunk_texts (hunk_text c.args.form) (left_change are (change_of text ch))) row))
+    (ap (λ (hs : List Hunk). flat_map (told c.args.form x.header.form) (kept_pieces are (zip (pieces text x) (hunks_of text hs)))) c.deref.ensures.value
+    ∙ sym (ap (λ (ch : Change). hunk_texts c.args.form x.header.form are (pieces text x) (change_of text ch)) row))
     (c.put_each.ensures x at)
 
 pub returns-in-Script : goal.returns-in-Script
@@ -33,11 +32,14 @@ returns-in-Script g c = λ x at.
     let are = flags (plain_filter_job c.args.job.now) c.args.patch (patch_of text x) in
     let row = ap (λ (y : FilePatch). y.change) (sym (same_Some c.patch_at.result.now x (sym c.patch_at.ensures.is ∙ at))) ∙ c.in-Script.is in
     puts-done _ (subst (λ (bs : List ℕ). HasPut g.O.Sink.view g.O.Sink.same_rest c.args.out.now c.args.out.now bs)
-    (sym (ap (λ (ch : Change). hunk_texts (hunk_text c.args.form) (left_change are (change_of text ch))) row))
+    (sym (ap (λ (ch : Change). hunk_texts c.args.form x.header.form are (pieces text x) (change_of text ch)) row))
     (has-none g.met.O.Sink.rest_none c.args.out.now))
 
 pub put_each-requires-clause-hunks : goal.put_each-requires-clause-hunks
 put_each-requires-clause-hunks g c = λ x at. subst (λ (ch : Change). IsHunks ch c.deref.result.now) (sym c.in-Hunks.is ∙ ap (λ (p : FilePatch). p.change) (same_Some c.patch_at.result.now x (sym c.patch_at.ensures.is ∙ at))) (sym c.deref.ensures.value)
+
+pub put_each-requires-clause-spans : goal.put_each-requires-clause-spans
+put_each-requires-clause-spans g c = λ x at. subst (λ (p : FilePatch). length p.hunk_spans.items ≡ row_count p.change) (same_Some c.patch_at.result.now x (sym c.patch_at.ensures.is ∙ at)) c.patch_at.ensures.placed.each
 
 pub put_each-requires-clause-lawful : goal.put_each-requires-clause-lawful
 put_each-requires-clause-lawful g c = are-lawful c.args.set.now.text c.patch_at.result.now.change c.deref.result.now (subst (λ (ch : Change). IsHunks ch c.deref.result.now) (sym c.in-Hunks.is) (sym c.deref.ensures.value)) c.patch_at.ensures.lawful.change
