@@ -9,8 +9,9 @@ use Rattle.patch_options.specs.Simple.{PlainWord, plain_word, plain_table}
 use Rattle.patch_options.specs.Whole.{whole_words}
 use Rattle.patch_options.specs.declared.simple.Group.{Group}
 use Rattle.patch_options.specs.declared.simple.Word.{Word}
-use Rattle.tool_words.specs.Calls.{calls_by, calls_of, calls_whole, each, operands_of, others_of, takes_files}
+use Rattle.tool_words.specs.Calls.{calls_by, calls_in, calls_of, calls_whole, each, operands_of, others_of, takes_files}
 use Rattle.tool_words.specs.Operands.{behind, is_file, is_kept, kept_of, still_leads, word_if}
+use Rattle.tool_words.specs.Retooling.{asked_words}
 use Rattle.tool_words.specs.Tools.{table_of, tool_named}
 use Rattle.tool_words.specs.declared.operands.Next.{Next}
 use Rattle.tool_words.specs.declared.tools.Tool.{Tool}
@@ -109,7 +110,11 @@ named_some : (words : List Text) (o : Option Tool) → AreSome (option_map_or (�
 named_some words None = tt
 named_some words (Some tool) = by_some tool words
 
+in_some : (words : List Text) → AreSome (calls_in words)
+unfolding calls_in
+in_some [] = tt
+in_some (first ∷ rest) = named_some (first ∷ rest) (tool_named first)
+
 pub calls_some : (words : List Text) → AreSome (calls_of words)
 unfolding calls_of
-calls_some [] = tt
-calls_some (first ∷ rest) = named_some (first ∷ rest) (tool_named first)
+calls_some words = in_some (asked_words words)

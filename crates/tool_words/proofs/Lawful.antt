@@ -9,7 +9,7 @@ use Rattle.outside.specs.Files.{is_temp}
 use Rattle.patch_options.specs.Forms.{is_lasting_name, is_name, number_of}
 use Rattle.patch_options.specs.Table.{value_of, plan_in}
 use Rattle.patch_options.proofs.Lawful.{some_has, none_has, is_false, size_of}
-use Rattle.tool_words.specs.Asked.{asked, gen_of, is_gen, is_lawful, is_made, is_size, is_split_file, is_sync, is_within, number_in}
+use Rattle.tool_words.specs.Asked.{are_part_names, asked, gen_of, is_gen, is_lawful, is_made, is_size, is_split_file, is_sync, is_within, number_in}
 use Rattle.tool_words.specs.PlainJobs.{AreRanges, IsLawfulToolJob, IsRange, IsSize, PlainRanges}
 use Rattle.tool_words.specs.Ranges.{between, end_or, item_of, items_by, items_of, listed, ordered, ranges_of, single}
 use Rattle.tool_words.specs.Selecting.{name_in}
@@ -119,7 +119,7 @@ pub lawful_job : (tool : Tool) (rows : List Row) → is_lawful tool rows ≡ tru
 lawful_job Lsdiff rows h = tt
 lawful_job Filterdiff rows h = record { hunks = ranges_have (value_of rows (codes "hunks")); lines = ranges_have (value_of rows (codes "lines")); files = ranges_have (value_of rows (codes "files")) }
 lawful_job Grepdiff rows h = tt
-lawful_job Splitdiff rows h = split_has (value_of rows (codes "file")) (both (is_sync rows) _ h).1
+lawful_job Splitdiff rows h = split_has (value_of rows (codes "input")) (both (are_part_names rows) _ (both (is_sync rows) _ h).1).1
 lawful_job Recountdiff rows h = tt
 lawful_job Patchgen rows h = gen_has rows h
 lawful_job Reversediff rows h = tt

@@ -5,3 +5,4 @@ pub mod Lawful
 pub mod Making
 pub mod Reading
 pub mod Calling
+pub mod Retools

@@ -1,16 +1,17 @@
 -- What the words of each tool ask for, over what `clap` matched.
-use Rattle.std.specs.Prelude.{ℕ, ◌*◌, List, [], codes, nat_le, Bool, true, false, not, ◌&&◌, ◌||◌, if◌then◌else◌, bytes_eq, Option, None, Some, is_some, option_and_then, unwrap_or}
+use Rattle.std.specs.Prelude.{ℕ, ◌*◌, List, [], codes, nat_le, Bool, true, false, not, ◌&&◌, ◌||◌, if◌then◌else◌, bytes_eq, Option, None, Some, is_some, option_map, option_and_then, unwrap_or}
 use Rattle.std.specs.Option.{option_map_or}
 use Rattle.clap.specs.Words.{Row, Text}
 use Rattle.hunk_core.specs.declared.Form.{Form}
 use Rattle.hunk_core.specs.declared.Form.TheVariants.{Unified, Context, Normal, Ed}
-use Rattle.patch_options.specs.Forms.{number_of, buffer_of, plan_of, sync_of, is_lasting_name}
+use Rattle.patch_options.specs.Forms.{number_of, buffer_of, plan_of, sync_of, is_lasting_name, is_name}
 use Rattle.patch_options.specs.Table.{is_used, value_of, has_form, sync_in, plan_in, buffer_size}
-use Rattle.tool_words.specs.PlainJobs.{PlainListJob, PlainFilterJob, PlainGrepJob, PlainSplitJob, PlainGenJob, PlainToolJob}
+use Rattle.tool_words.specs.PlainJobs.{PlainListJob, PlainFilterJob, PlainGrepJob, PlainPartNames, PlainSplitJob, PlainGenJob, PlainToolJob}
 use Rattle.tool_words.specs.PlainJobs.PlainToolJob.{list_job, filter_job, grep_job, split_job, recount_job, gen_job, flip_job, stack_job}
 use Rattle.tool_words.specs.Ranges.{ranges_of}
-use Rattle.tool_words.specs.Selecting.{number_or_0, name_in, is_select, select_of, is_input, input_in}
+use Rattle.tool_words.specs.Selecting.{has_pattern_file, is_number, number_or_0, name_in, is_select, select_of, is_input, input_in}
 use Rattle.tool_words.specs.Showing.{is_one_given, is_shown, shown_of}
+use Rattle.tool_words.specs.Marking.{are_marks, marks_of}
 use Rattle.tool_words.specs.Styling.{is_style, style_of}
 use Rattle.tool_words.specs.declared.jobs.Searched.{Searched}
 use Rattle.tool_words.specs.declared.jobs.Searched.TheVariants.{All, Removed, Added, Changed}
@@ -67,8 +68,18 @@ form_of text = if bytes_eq text (codes "unified") then Some Unified
 abbrev pub is_form : List ℕ → Bool
 is_form text = is_some (form_of text)
 
+-- what is told of hunks goes with no form
+abbrev pub asks_marks : List Row → Bool
+asks_marks rows = is_used rows (codes "annotate") || is_some (value_of rows (codes "as-numbered-lines"))
+
+abbrev pub is_one_form : List Row → Bool
+is_one_form rows = not (asks_marks rows && is_some (value_of rows (codes "format")))
+
+abbrev pub is_formed : List Row → Bool
+is_formed rows = (has_form is_form (value_of rows (codes "format")) && are_marks rows) && is_one_form rows
+
 abbrev pub is_filter : List Row → Bool
-is_filter rows = has_form is_form (value_of rows (codes "format")) && (is_style rows && (are_ranges rows && is_subject rows))
+is_filter rows = is_formed rows && (is_style rows && (are_ranges rows && is_subject rows))
 
 abbrev pub filter_of : List Row → PlainFilterJob
 filter_of rows = record {
@@ -80,6 +91,7 @@ filter_of rows = record {
   format = option_and_then form_of (value_of rows (codes "format"));
   verbose = is_used rows (codes "verbose");
   style = style_of rows;
+  marks = marks_of rows;
 }
 
 -- ---- `grepdiff`
@@ -111,23 +123,37 @@ is_searched text = is_some (searched_of text)
 abbrev pub shows_names : List Row → Bool
 shows_names rows = (is_used rows (codes "line-number") || is_used rows (codes "with-filename")) || is_one_given rows (codes "strip") (codes "addprefix")
 
--- names are shown, or hunks or file patches are written
+-- names are shown, or hunks or file patches are written, or their numbered lines
 abbrev pub is_one_kind : List Row → Bool
-is_one_kind rows = not (is_some (value_of rows (codes "output-matching")) && shows_names rows)
+is_one_kind rows = if is_some (value_of rows (codes "output-matching")) then not (shows_names rows) else not (is_some (value_of rows (codes "as-numbered-lines")))
 
--- a pattern is there; that it is an extended one is so in any case
+-- a pattern is there, or a file of patterns and at most one operand
+abbrev pub is_sought : List Row → Bool
+is_sought rows = if has_pattern_file rows then not (is_some (value_of rows (codes "input"))) else is_some (value_of rows (codes "regex"))
+
+-- the pattern, if no file has them
+abbrev pub pattern_in : List Row → Text
+pattern_in rows = if has_pattern_file rows then [] else unwrap_or (value_of rows (codes "regex")) []
+
+-- a pattern is there, with words that go together
+abbrev pub is_grepped : List Row → Bool
+is_grepped rows = (is_sought rows && are_marks rows) && is_one_kind rows
+
+-- that a pattern is an extended one is so in any case
 abbrev pub is_grep : List Row → Bool
-is_grep rows = is_some (value_of rows (codes "regex"))
-    && (has_form is_grep_out (value_of rows (codes "output-matching")) && (has_form is_searched (value_of rows (codes "only-match")) && (is_one_kind rows && is_list rows)))
+is_grep rows = is_grepped rows
+    && (has_form is_grep_out (value_of rows (codes "output-matching")) && (has_form is_searched (value_of rows (codes "only-match")) && (has_form is_name (value_of rows (codes "file")) && is_list rows)))
 
 abbrev pub grep_of : List Row → PlainGrepJob
 grep_of rows = record {
   input = input_in rows;
   select = select_of rows;
-  pattern = unwrap_or (value_of rows (codes "regex")) [];
+  pattern = pattern_in rows;
+  pattern_file = option_map name_in (value_of rows (codes "file"));
   searched = unwrap_or (option_and_then searched_of (value_of rows (codes "only-match"))) All;
   output = unwrap_or (option_and_then grep_out_of (value_of rows (codes "output-matching"))) Names;
   shown = shown_of rows false;
+  marks = marks_of rows;
 }
 
 -- ---- `splitdiff`
@@ -136,13 +162,27 @@ grep_of rows = record {
 unfoldable pub is_split_file : List ℕ → Bool
 is_split_file text = not (bytes_eq text (codes "-")) && is_lasting_name text
 
+-- the front that is stripped from names is a number, and the directory of the parts a name
+abbrev pub are_part_names : List Row → Bool
+are_part_names rows = has_form is_number (value_of rows (codes "strip-match")) && has_form is_name (value_of rows (codes "directory"))
+
+abbrev pub part_names_of : List Row → PlainPartNames
+part_names_of rows = record {
+  by_name = is_used rows (codes "by-name");
+  directory = option_map name_in (value_of rows (codes "directory"));
+  bare = is_used rows (codes "bare");
+  strip = number_or_0 rows (codes "strip-match");
+}
+
 abbrev pub is_split : List Row → Bool
-is_split rows = is_sync rows && option_map_or is_split_file (value_of rows (codes "file")) false
+is_split rows = is_sync rows && (are_part_names rows && option_map_or is_split_file (value_of rows (codes "input")) false)
 
 abbrev pub split_of : List Row → PlainSplitJob
 split_of rows = record {
-  input = option_map_or name_in (value_of rows (codes "file")) [];
+  input = option_map_or name_in (value_of rows (codes "input")) [];
   every = is_used rows (codes "every");
+  names = part_names_of rows;
+  verbose = is_used rows (codes "verbose");
   skip_binary = true;
   sync = sync_in rows;
 }

@@ -1,12 +1,13 @@
 -- The calls that the words of a filter are: with several FILEs one for each of them, which has all words but the other FILEs (manual pages of
 -- patchutils).
-use Rattle.std.specs.Prelude.{List, [], ◌∷◌, ◌++◌, map, codes, Bool, true, false, not, if◌then◌else◌}
+use Rattle.std.specs.Prelude.{List, [], ◌∷◌, ◌++◌, map, codes, Bool, true, false, not, ◌&&◌, if◌then◌else◌}
 use Rattle.std.specs.List.{list_any}
 use Rattle.std.specs.Option.{option_map_or}
 use Rattle.clap.specs.Words.{Text}
 use Rattle.patch_options.specs.Forms.{is_front}
 use Rattle.patch_options.specs.Whole.{whole_words}
 use Rattle.tool_words.specs.Operands.{kept_of, word_if}
+use Rattle.tool_words.specs.Retooling.{asked_words, give_file}
 use Rattle.tool_words.specs.Tools.{table_of, tool_named}
 use Rattle.tool_words.specs.declared.operands.Next.TheVariants.{Any}
 use Rattle.tool_words.specs.declared.tools.Tool.{Tool}
@@ -34,9 +35,13 @@ has_lead Patchgen = false
 has_lead Reversediff = false
 has_lead Patchstack = false
 
+-- so it does, unless a file has the patterns
+abbrev pub leads : Tool → List Text → Bool
+leads tool words = has_lead tool && not (give_file (table_of tool) false words)
+
 -- the words behind the tool's name that are FILEs, or all but these
 abbrev pub operands_of : Bool → Tool → List Text → List Text
-operands_of files tool words = kept_of files (table_of tool) (has_lead tool) Any words
+operands_of files tool words = kept_of files (table_of tool) (leads tool words) Any words
 
 -- words for what isn't a list
 abbrev pub asks_output : List Text → Bool
@@ -74,7 +79,11 @@ calls_whole tool words (name ∷ rest) = each words (others_of tool name rest) (
 unfoldable pub calls_by : Tool → List Text → List (List Text)
 calls_by tool words = if takes_files tool then calls_whole tool words (whole_words (table_of tool) words) else words ∷ []
 
--- the calls that the words are, in the order of their FILEs; the first word names the tool
+-- by the words with the name of their tool in front
+unfoldable pub calls_in : List Text → List (List Text)
+calls_in [] = [] ∷ []
+calls_in (first ∷ rest) = option_map_or (λ tool. calls_by tool (first ∷ rest)) (tool_named first) ((first ∷ rest) ∷ [])
+
+-- the calls that the words are, in the order of their FILEs; the first word names the tool, which others can make another one
 unfoldable pub calls_of : List Text → List (List Text)
-calls_of [] = [] ∷ []
-calls_of (first ∷ rest) = option_map_or (λ tool. calls_by tool (first ∷ rest)) (tool_named first) ((first ∷ rest) ∷ [])
+calls_of words = calls_in (asked_words words)

@@ -9,3 +9,5 @@ pub mod Words
 pub mod Operands
 pub mod Calls
 pub mod Styling
+pub mod Marking
+pub mod Retooling

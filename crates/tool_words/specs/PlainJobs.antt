@@ -16,6 +16,8 @@ use Rattle.tool_words.specs.declared.jobs.Style.{Style}
 use Rattle.tool_words.specs.declared.jobs.Searched.{Searched}
 use Rattle.tool_words.specs.declared.jobs.GrepOut.{GrepOut}
 use Rattle.tool_words.specs.declared.jobs.GrepJob.{GrepJob}
+use Rattle.tool_words.specs.declared.jobs.Marks.{Marks}
+use Rattle.tool_words.specs.declared.jobs.PartNames.{PartNames}
 use Rattle.tool_words.specs.declared.jobs.SplitJob.{SplitJob}
 use Rattle.tool_words.specs.declared.jobs.GenJob.{GenJob}
 use Rattle.tool_words.specs.declared.jobs.StackJob.{StackJob}
@@ -78,20 +80,32 @@ pub record PlainFilterJob : Type 0 where
   pub format : Option Form
   pub verbose : Bool
   pub style : PlainStyle
+  pub marks : Marks
 
 -- what is looked for; each field is that of `GrepJob`
 pub record PlainGrepJob : Type 0 where
   pub input : Input
   pub select : PlainSelect
   pub pattern : List ℕ
+  pub pattern_file : Option (List ℕ)
   pub searched : Searched
   pub output : GrepOut
   pub shown : PlainShown
+  pub marks : Marks
+
+-- how the parts are named; each field is that of `PartNames`
+pub record PlainPartNames : Type 0 where
+  pub by_name : Bool
+  pub directory : Option (List ℕ)
+  pub bare : Bool
+  pub strip : ℕ
 
 -- what is cut; each field is that of `SplitJob`
 pub record PlainSplitJob : Type 0 where
   pub input : List ℕ
   pub every : Bool
+  pub names : PlainPartNames
+  pub verbose : Bool
   pub skip_binary : Bool
   pub sync : SyncKind
 
@@ -140,13 +154,16 @@ abbrev pub plain_list_job : ListJob → PlainListJob
 plain_list_job j = record { input = j.input; select = plain_select j.select; shown = plain_shown j.shown; number_files = j.number_files }
 
 abbrev pub plain_filter_job : FilterJob → PlainFilterJob
-plain_filter_job j = record { input = j.input; select = plain_select j.select; hunks = plain_ranges j.hunks; lines = plain_ranges j.lines; files = plain_ranges j.files; format = j.format; verbose = j.verbose; style = plain_style j.style }
+plain_filter_job j = record { input = j.input; select = plain_select j.select; hunks = plain_ranges j.hunks; lines = plain_ranges j.lines; files = plain_ranges j.files; format = j.format; verbose = j.verbose; style = plain_style j.style; marks = j.marks }
 
 abbrev pub plain_grep_job : GrepJob → PlainGrepJob
-plain_grep_job j = record { input = j.input; select = plain_select j.select; pattern = string_bytes j.pattern; searched = j.searched; output = j.output; shown = plain_shown j.shown }
+plain_grep_job j = record { input = j.input; select = plain_select j.select; pattern = string_bytes j.pattern; pattern_file = j.pattern_file; searched = j.searched; output = j.output; shown = plain_shown j.shown; marks = j.marks }
+
+abbrev pub plain_part_names : PartNames → PlainPartNames
+plain_part_names n = record { by_name = n.by_name; directory = n.directory; bare = n.bare; strip = n.strip }
 
 abbrev pub plain_split_job : SplitJob → PlainSplitJob
-plain_split_job j = record { input = j.input; every = j.every; skip_binary = j.skip_binary; sync = j.sync }
+plain_split_job j = record { input = j.input; every = j.every; names = plain_part_names j.names; verbose = j.verbose; skip_binary = j.skip_binary; sync = j.sync }
 
 abbrev pub plain_gen_job : GenJob → PlainGenJob
 plain_gen_job j = record { seed = j.seed; files = j.files; lines = j.lines; plan = j.plan; buffer = j.buffer; sync = j.sync }

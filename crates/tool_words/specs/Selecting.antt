@@ -1,5 +1,5 @@
 -- Which file patches are meant, and the text that is read, over what `clap` matched.
-use Rattle.std.specs.Prelude.{ℕ, List, [], codes, Bool, true, ◌&&◌, ◌||◌, is_some, option_map, option_and_then, unwrap_or}
+use Rattle.std.specs.Prelude.{ℕ, List, [], codes, Bool, true, ◌&&◌, ◌||◌, Option, is_some, option_map, option_and_then, unwrap_or, if◌then◌else◌}
 use Rattle.clap.specs.Words.{Row, Text}
 use Rattle.outside.specs.Names.{given_form}
 use Rattle.patch_options.specs.Forms.{number_of, is_name, is_patch_file}
@@ -39,9 +39,17 @@ select_of rows = record {
   skip_binary = true;
 }
 
+-- a file has the patterns
+abbrev pub has_pattern_file : List Row → Bool
+has_pattern_file rows = is_some (value_of rows (codes "file"))
+
+-- the operand that is the text: behind the pattern, or the first one where a file has the patterns
+abbrev pub operand_in : List Row → Option Text
+operand_in rows = if has_pattern_file rows then value_of rows (codes "regex") else value_of rows (codes "input")
+
 -- the text that is read: a file, or standard input
 abbrev pub is_input : List Row → Bool
-is_input rows = has_form is_patch_file (value_of rows (codes "file"))
+is_input rows = has_form is_patch_file (operand_in rows)
 
 abbrev pub input_in : List Row → Input
-input_in rows = input_of (value_of rows (codes "file"))
+input_in rows = input_of (operand_in rows)

@@ -3,7 +3,7 @@ use Rattle.std.specs.Prelude.{ℕ, List, [], ◌++◌, codes, Bool, not, ◌&&�
 use Rattle.clap.specs.Words.{Row, Text}
 use Rattle.patch_options.specs.Table.{is_used, value_of, has_form}
 use Rattle.tool_words.specs.PlainJobs.{PlainShown}
-use Rattle.tool_words.specs.Selecting.{is_number, number_or_0}
+use Rattle.tool_words.specs.Selecting.{is_number, number_or_0, operand_in}
 
 abbrev pub is_shown : List Row → Bool
 is_shown rows = has_form is_number (value_of rows (codes "strip"))
@@ -34,7 +34,7 @@ shows_file rows = is_used rows (codes "with-filename") && not (is_used rows (cod
 
 -- it and a mark, where it is shown
 abbrev pub label_of : List Row → List ℕ → List ℕ
-label_of rows mark = if shows_file rows then file_shown (value_of rows (codes "file")) ++ mark else []
+label_of rows mark = if shows_file rows then file_shown (operand_in rows) ++ mark else []
 
 abbrev pub shown_of : List Row → Bool → PlainShown
 shown_of rows empty_absent = record {

@@ -1,5 +1,6 @@
 -- The tables of the words of the tools beside `patch` (manual pages of patchutils).
-use Rattle.std.specs.Prelude.{List, [], ◌∷◌, ◌++◌, codes, Some}
+use Rattle.std.specs.Prelude.{ℕ, List, [], ◌∷◌, ◌++◌, codes, Some}
+use Rattle.clap.specs.Words.{Text}
 use Rattle.patch_options.specs.Simple.{PlainWord, a_word, long_switch, named, operand, option, switch}
 use Rattle.patch_options.specs.declared.simple.WordForm.TheVariants.{Letter, Values}
 
@@ -13,7 +14,7 @@ file_words = option 73 (codes "include-from-file") ∷ option 88 (codes "exclude
 
 -- the text that is read
 abbrev pub input_table : List PlainWord
-input_table = operand (codes "file") ∷ []
+input_table = operand (codes "input") ∷ []
 
 -- the same where binary changes can be passed over
 abbrev pub subject_table : List PlainWord
@@ -31,17 +32,25 @@ list_table = shown_words ++ switch 78 (codes "number-files") ∷ switch 69 (code
 abbrev pub style_words : List PlainWord
 style_words = long_switch (codes "clean") ∷ named (codes "strip") ∷ named (codes "addprefix") ∷ named (codes "addoldprefix") ∷ named (codes "addnewprefix") ∷ long_switch (codes "remove-timestamps") ∷ []
 
+-- what is told of hunks, or written in place of them
+abbrev pub mark_words : List PlainWord
+mark_words = long_switch (codes "annotate") ∷ named (codes "as-numbered-lines") ∷ []
+
 -- F 70, # 35, v 118
 abbrev pub filter_table : List PlainWord
-filter_table = name_words ++ file_words ++ (option 70 (codes "files") ∷ option 35 (codes "hunks") ∷ named (codes "lines") ∷ named (codes "format") ∷ switch 118 (codes "verbose") ∷ (style_words ++ subject_table))
+filter_table = name_words ++ file_words ++ (option 70 (codes "files") ∷ option 35 (codes "hunks") ∷ named (codes "lines") ∷ named (codes "format") ∷ switch 118 (codes "verbose") ∷ (style_words ++ (mark_words ++ subject_table)))
 
--- E 69
+-- f 102, E 69
 abbrev pub grep_table : List PlainWord
-grep_table = (name_words ++ file_words) ++ named (codes "only-match") ∷ shown_words ++ named (codes "output-matching") ∷ switch 69 (codes "extended-regexp") ∷ operand (codes "regex") ∷ subject_table
+grep_table = (name_words ++ file_words) ++ named (codes "only-match") ∷ shown_words ++ named (codes "output-matching") ∷ (mark_words ++ option 102 (codes "file") ∷ switch 69 (codes "extended-regexp") ∷ operand (codes "regex") ∷ subject_table)
 
--- a 97
+-- a switch that has a letter alone
+abbrev pub letter : ℕ → Text → PlainWord
+letter byte name = a_word Letter (Some byte) name
+
+-- a 97, d 100, D 68, E 69, p 112, v 118
 abbrev pub split_table : List PlainWord
-split_table = a_word Letter (Some 97) (codes "every") ∷ named (codes "sync") ∷ subject_table
+split_table = letter 97 (codes "every") ∷ letter 100 (codes "by-name") ∷ option 68 (codes "directory") ∷ letter 69 (codes "bare") ∷ option 112 (codes "strip-match") ∷ letter 118 (codes "verbose") ∷ named (codes "sync") ∷ subject_table
 
 abbrev pub gen_table : List PlainWord
 gen_table = operand (codes "seed") ∷ operand (codes "files") ∷ operand (codes "lines") ∷ named (codes "plan") ∷ named (codes "buffer") ∷ named (codes "sync") ∷ []

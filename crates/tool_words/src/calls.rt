@@ -1,17 +1,29 @@
 //! The calls that the words of a filter are: one for each FILE.
 ghost use Rattle.std.specs.Prelude.{◌≡◌, ◌∷◌, ◌++◌, [], map, true, string_bytes, IfOk, OnOk};
 ghost use Rattle.patch_options.specs.Forms.{is_front};
-ghost use Rattle.tool_words.specs.Calls.{asks_output, calls_by, calls_of, calls_whole, each, has_lead, is_labelled, operands_of, others_of, takes_files};
+ghost use Rattle.tool_words.specs.Calls.{asks_output, calls_by, calls_in, calls_of, calls_whole, each, has_lead, leads, is_labelled, operands_of, others_of, takes_files};
 
 use crate::operands::{add_if, add_kept};
+use crate::retooling::{asked_words, copied, give_file, is_front};
 use crate::{Tool, tool_named};
 use patch_options::whole_words;
 use std::alloc::{AllocError, Global};
 
-/// The calls that the words are, in the order of their FILEs. Words with one FILE are one call, and stay as they are.
+/// The calls that the words are, in the order of their FILEs. Words with one FILE are one call.
 #[tactic(auto, unfolding(crate::specs::Calls::calls_of))]
 pub fn calls_of(alloc: Global, words: &[String]) -> Result<Vec<Vec<String>>, AllocError>
     ensures { IfOk result (λ calls. map (λ c. map string_bytes c.items) calls.items ≡ calls_of (map string_bytes words.now)) }
+{
+    match asked_words(alloc, words) {
+        Ok(asked) => calls_in(alloc, &asked),
+        Err(error) => Err(error),
+    }
+}
+
+/// The same of words that name the tool that they ask for.
+#[tactic(auto, unfolding(crate::specs::Calls::calls_in))]
+fn calls_in(alloc: Global, words: &[String]) -> Result<Vec<Vec<String>>, AllocError>
+    ensures { IfOk result (λ calls. map (λ c. map string_bytes c.items) calls.items ≡ calls_in (map string_bytes words.now)) }
 {
     match words {
         [first, ..] => match tool_named(first.as_str()) {
@@ -120,16 +132,6 @@ fn with_file(alloc: Global, others: &[String], file: &str) -> Result<Vec<String>
     Ok(call)
 }
 
-fn copied(alloc: Global, words: &[String]) -> Result<Vec<String>, AllocError>
-    ensures { IfOk result (λ copy. map string_bytes copy.items ≡ map string_bytes words.now) }
-{
-    let mut copy = Vec::new(alloc);
-    for word in words {
-        add_if(alloc, true, word.as_str(), &mut copy)?;
-    }
-    Ok(copy)
-}
-
 /// Adds the words behind the tool's name that are FILEs, or all but these.
 fn add_operands(
     alloc: Global,
@@ -140,7 +142,7 @@ fn add_operands(
 ) -> Result<(), AllocError>
     ensures { OnOk result (map string_bytes kept.new.items ≡ map string_bytes kept.old.items ++ operands_of files tool (map string_bytes words.now)) }
 {
-    add_kept(alloc, files, tool.table(), has_lead(tool), words, kept)
+    add_kept(alloc, files, tool.table(), leads(tool, words), words, kept)
 }
 
 fn is_labelled(tool: Tool, words: &[String]) -> bool
@@ -156,17 +158,7 @@ fn is_labelled(tool: Tool, words: &[String]) -> bool
 fn asks_output(words: &[String]) -> bool
     ensures { result ≡ asks_output (map string_bytes words.now) }
 {
-    words
-        .iter()
-        .any(|word| is_front("--output-matching", word.as_str()))
-}
-
-/// Whether the word begins with the text.
-#[tactic(auto, unfolding(patch_options::specs::Forms::is_front))]
-fn is_front(text: &str, word: &str) -> bool
-    ensures { result ≡ is_front text.now word.now }
-{
-    word.as_bytes().starts_with(text.as_bytes())
+    words.iter().any(|word| is_front(b"--output-matching", word.as_str().as_bytes()))
 }
 
 fn takes_files(tool: Tool) -> bool
@@ -182,4 +174,11 @@ fn has_lead(tool: Tool) -> bool
     ensures { result ≡ has_lead tool }
 {
     matches!(tool, Tool::Grepdiff)
+}
+
+/// Whether a pattern leads in front of the FILEs.
+fn leads(tool: Tool, words: &[String]) -> bool
+    ensures { result ≡ leads tool (map string_bytes words.now) }
+{
+    has_lead(tool) && !give_file(tool.table(), words)
 }

@@ -10,11 +10,24 @@ use std::alloc::{AllocError, Global};
 /// The words that each tool has.
 const BEHIND: &str = "  --help, --version           this text, or the version\n";
 
+/// The same of the tools that can be each other.
+const BEHIND_SIEVE: &str = concat!(
+    "  --list, --filter, --grep    be lsdiff, filterdiff or grepdiff\n",
+    "  --help, --version           this text, or the version\n"
+);
+
 /// What tells the words of a tool, in lines: how it is called, what it does, and each word with what it gives.
 pub fn usage(alloc: Global, tool: Tool) -> Result<String, AllocError>
     ensures { IfOk result (λ text. Tells (table_of tool) (string_bytes text)) }
 {
-    usage_of(alloc, front(tool), tool.table(), BEHIND)
+    usage_of(alloc, front(tool), tool.table(), behind(tool))
+}
+
+fn behind(tool: Tool) -> &'static str {
+    match tool {
+        Tool::Lsdiff | Tool::Filterdiff | Tool::Grepdiff => BEHIND_SIEVE,
+        _ => BEHIND,
+    }
 }
 
 fn front(tool: Tool) -> &'static str {

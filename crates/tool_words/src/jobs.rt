@@ -79,6 +79,22 @@ pub struct Style {
     pub clean: bool,
 }
 
+/// The side of the file patches that are written whose lines are numbered.
+#[derive(Clone, Copy, Debug)]
+pub enum Numbered {
+    Before,
+    After,
+}
+
+/// What is told of the hunks that are written, or written in their place.
+#[derive(Clone, Copy, Debug)]
+pub struct Marks {
+    /// Each hunk is told by its number in its file patch, and by the name of that.
+    pub annotate: bool,
+    /// The lines of this side, with their numbers, stand in place of hunks.
+    pub numbered: Option<Numbered>,
+}
+
 /// One command of `filterdiff`.
 #[derive(Drop, Debug)]
 pub struct FilterJob {
@@ -95,6 +111,8 @@ pub struct FilterJob {
     /// The text outside of file patches is written, also where no name is excluded.
     pub verbose: bool,
     pub style: Style,
+    /// They ask for something only where no form is asked for.
+    pub marks: Marks,
 }
 
 /// Which lines of a hunk are searched.
@@ -125,12 +143,29 @@ pub enum GrepOut {
 pub struct GrepJob {
     pub input: Input,
     pub select: Select,
-    /// What a line of a hunk is to have.
+    /// What a line of a hunk is to have, where no file has the patterns.
     pub pattern: String,
+    /// The file whose lines are patterns, of which a line is to have one.
+    pub pattern_file: Option<Name>,
     pub searched: Searched,
     pub output: GrepOut,
     /// How their names are shown.
     pub shown: Shown,
+    /// Lines are numbered only where hunks or file patches are written.
+    pub marks: Marks,
+}
+
+/// How the parts of a text are named.
+#[derive(Drop, Debug)]
+pub struct PartNames {
+    /// By the names of their file patches, and not by that of the text.
+    pub by_name: bool,
+    /// By these names, and in this directory.
+    pub directory: Option<Name>,
+    /// Without `.patch` at their end.
+    pub bare: bool,
+    /// How many slashes are stripped from the name of a file patch, with what stands before them.
+    pub strip: u32,
 }
 
 /// One command of `splitdiff`.
@@ -140,6 +175,9 @@ pub struct SplitJob {
     pub input: Name,
     /// Each file patch begins a part.
     pub every: bool,
+    pub names: PartNames,
+    /// The lines of each part are told.
+    pub verbose: bool,
     /// Binary changes are passed over, and don't refuse the file.
     pub skip_binary: bool,
     pub sync: SyncKind,

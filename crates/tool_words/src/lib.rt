@@ -4,9 +4,11 @@
 mod calls;
 mod help;
 mod jobs;
+mod marking;
 mod operands;
 mod ranges;
 mod readers;
+mod retooling;
 mod rows;
 mod selecting;
 mod showing;
@@ -18,8 +20,9 @@ mod words;
 pub use calls::calls_of;
 pub use help::usage;
 pub use jobs::{
-    FilterJob, GenJob, GrepJob, GrepOut, ListJob, Ranges, Searched, Select, Shown, SplitJob,
-    StackJob, StackOp, Style, ToolJob,
+    FilterJob, GenJob, GrepJob, GrepOut, ListJob, Marks, Numbered, PartNames, Ranges, Searched,
+    Select, Shown, SplitJob, StackJob, StackOp, Style, ToolJob,
 };
+pub use retooling::asked_words;
 pub use tools::{Tool, tool_named};
 pub use words::read_tool_words;

@@ -100,7 +100,7 @@ fn is_option(word: &str) -> bool
     }
 }
 
-fn behind_hyphen(word: &str) -> Option<&str>
+pub fn behind_hyphen(word: &str) -> Option<&str>
     ensures { option_map (λ s. s.now) result ≡ strip_byte 45 word.now }
 {
     word.strip_prefix('-')
@@ -160,7 +160,7 @@ fn letters_want(table: &[Group], letters: &[u8]) -> bool
 }
 
 /// The place of the first letter that takes a value.
-fn first_valued(table: &[Group], letters: &[u8]) -> Option<usize>
+pub fn first_valued(table: &[Group], letters: &[u8]) -> Option<usize>
     ensures place { result ≡ position (λ byte. list_any (has_letter byte) (plain_table table.now)) letters.now }
     ensures bound { IfSome result (λ n. n < length letters.now) }
 {

@@ -1,27 +1,33 @@
 //! What the words of each tool ask for, by what was matched in them.
-ghost use Rattle.std.specs.Prelude.{◌≡◌, ◌⊎◌, true, false, codes, is_some, option_map, option_and_then, unwrap_or, IfOk, IfErr, IfSome};
+ghost use Rattle.std.specs.Option.{option_map_or};
+ghost use Rattle.std.specs.Prelude.{◌≡◌, ◌⊎◌, [], true, false, codes, is_some, option_map, option_and_then, unwrap_or, IfOk, IfErr, IfSome, string_bytes};
+ghost use Rattle.patch_options.specs.Forms.{is_name};
+ghost use Rattle.tool_words.specs.Marking.{are_marks, marks_of};
 ghost use Rattle.patch_options.specs.Simple.{rows_in};
 ghost use Rattle.patch_options.specs.Table.{has_form, text_of, value_of};
-ghost use Rattle.tool_words.specs.PlainJobs.{plain_ranges, plain_tool_job};
+ghost use Rattle.tool_words.specs.PlainJobs.{plain_part_names, plain_ranges, plain_tool_job};
 ghost use Rattle.tool_words.specs.PlainJobs.PlainToolJob.{list_job, filter_job, grep_job, split_job, recount_job, gen_job, flip_job, stack_job};
 ghost use Rattle.tool_words.specs.Ranges.{ranges_of};
 ghost use Rattle.tool_words.specs.Selecting.{is_input, input_in, name_in};
-ghost use Rattle.tool_words.specs.Asked.{is_empty_absent, is_list, list_of, are_ranges, is_form, form_of, is_filter, filter_of, is_grep_out, grep_out_of, is_searched, searched_of, shows_names, is_one_kind, is_grep, grep_of, is_split_file, is_split, split_of, is_size, is_gen, gen_of, stack_op_of, stack_op_in, is_stack, stack_of, is_lawful, asked};
+ghost use Rattle.tool_words.specs.Asked.{is_empty_absent, is_list, list_of, are_ranges, is_form, is_formed, asks_marks, is_one_form, form_of, is_filter, filter_of, is_grep_out, grep_out_of, is_searched, searched_of, shows_names, is_one_kind, is_sought, is_grepped, pattern_in, is_grep, grep_of, is_split_file, are_part_names, part_names_of, is_split, split_of, is_size, is_gen, gen_of, stack_op_of, stack_op_in, is_stack, stack_of, is_lawful, asked};
 
+use crate::marking::{are_marks, marks_in};
 use crate::ranges::read_ranges;
-use crate::selecting::{is_given, is_one_given, read_operand, read_subject};
+use crate::selecting::{
+    has_pattern_file, is_given, is_one_given, number_or_0, read_operand, read_subject,
+};
 use crate::showing::read_list;
 use crate::styling::read_style;
 use crate::{
-    FilterJob, GenJob, GrepJob, GrepOut, Ranges, Searched, SplitJob, StackJob, StackOp, Tool,
-    ToolJob,
+    FilterJob, GenJob, GrepJob, GrepOut, PartNames, Ranges, Searched, SplitJob, StackJob, StackOp,
+    Tool, ToolJob,
 };
 use clap::ArgMatches;
 use hunk_core::Form;
 use outside::Name;
 use patch_options::{
-    WordFault, buffer_in, is_buffer, is_plan, is_sync, is_used, lasting_name_of, number_in,
-    plan_in, sync_in, value_of,
+    WordFault, buffer_in, is_buffer, is_number, is_plan, is_sync, is_used, lasting_name_of,
+    number_in, plan_in, read_name, sync_in, value_of,
 };
 use std::alloc::Global;
 
@@ -74,7 +80,7 @@ fn filter_of(alloc: Global, matches: &ArgMatches<'_>) -> Result<ToolJob, WordFau
     ensures lawful { IfOk result (λ job. is_filter (rows_in matches.now) ≡ true) }
     ensures refused { IfErr result (λ fault. (fault ≡ WordFault.Memory) ⊎ ((fault ≡ WordFault.Usage) × (is_filter (rows_in matches.now) ≡ false))) }
 {
-    if !is_form(value_of(matches, "format")) {
+    if !is_formed(matches) {
         return Err(WordFault::Usage);
     }
     let style = read_style(alloc, matches)?;
@@ -95,6 +101,7 @@ fn filter_of(alloc: Global, matches: &ArgMatches<'_>) -> Result<ToolJob, WordFau
             format: form_in(matches),
             verbose: is_used(matches, "verbose"),
             style,
+            marks: marks_in(matches),
         })),
         Err(fault) => {
             drop(style);
@@ -131,6 +138,26 @@ fn ranges_in(alloc: Global, matches: &ArgMatches<'_>) -> Result<AllRanges, WordF
             Err(fault)
         }
     }
+}
+
+/// Whether the words for a form or for numbered lines are lawful.
+fn is_formed(matches: &ArgMatches<'_>) -> bool
+    ensures { result ≡ is_formed (rows_in matches.now) }
+{
+    (is_form(value_of(matches, "format")) && are_marks(matches)) && is_one_form(matches)
+}
+
+/// Whether a form is asked for, or what is told of hunks.
+fn is_one_form(matches: &ArgMatches<'_>) -> bool
+    ensures { result ≡ is_one_form (rows_in matches.now) }
+{
+    !(asks_marks(matches) && is_given(matches, "format"))
+}
+
+fn asks_marks(matches: &ArgMatches<'_>) -> bool
+    ensures { result ≡ asks_marks (rows_in matches.now) }
+{
+    is_used(matches, "annotate") || is_given(matches, "as-numbered-lines")
 }
 
 fn is_form(text: Option<&str>) -> bool
@@ -170,37 +197,98 @@ fn grep_of(alloc: Global, matches: &ArgMatches<'_>) -> Result<ToolJob, WordFault
     ensures lawful { IfOk result (λ job. is_grep (rows_in matches.now) ≡ true) }
     ensures refused { IfErr result (λ fault. (fault ≡ WordFault.Memory) ⊎ ((fault ≡ WordFault.Usage) × (is_grep (rows_in matches.now) ≡ false))) }
 {
-    let Some(pattern) = value_of(matches, "regex") else {
+    if !is_grepped(matches) {
         return Err(WordFault::Usage);
-    };
+    }
     let Some(output) = output_in(matches) else {
         return Err(WordFault::Usage);
     };
     let Some(searched) = searched_in(matches) else {
         return Err(WordFault::Usage);
     };
-    if !is_one_kind(matches) {
-        return Err(WordFault::Usage);
-    }
-    let pattern = String::from_str(alloc, pattern)?;
+    let sought = read_sought(alloc, matches)?;
     match read_list(alloc, matches, false) {
         Ok(list) => Ok(ToolJob::Grep(GrepJob {
             input: list.input,
             select: list.select,
-            pattern,
+            pattern: sought.pattern,
+            pattern_file: sought.file,
             searched,
             output,
             shown: list.shown,
+            marks: marks_in(matches),
         })),
-        Err(fault) => Err(fault),
+        Err(fault) => {
+            drop(sought);
+            Err(fault)
+        }
     }
 }
 
-/// Whether names are shown, or hunks or file patches are written.
+/// What is looked for.
+#[derive(Drop)]
+struct Sought {
+    pattern: String,
+    file: Option<Name>,
+}
+
+/// What is looked for, if the words for it are lawful.
+fn read_sought(alloc: Global, matches: &ArgMatches<'_>) -> Result<Sought, WordFault>
+    ensures pattern { IfOk result (λ s. string_bytes s.pattern ≡ pattern_in (rows_in matches.now)) }
+    ensures file { IfOk result (λ s. s.file ≡ option_map name_in (value_of (rows_in matches.now) (codes "file"))) }
+    ensures lawful { IfOk result (λ s. has_form is_name (value_of (rows_in matches.now) (codes "file")) ≡ true) }
+    ensures refused { IfErr result (λ fault. (fault ≡ WordFault.Memory) ⊎ ((fault ≡ WordFault.Usage) × (has_form is_name (value_of (rows_in matches.now) (codes "file")) ≡ false))) }
+{
+    let file = read_name(alloc, value_of(matches, "file"))?;
+    match String::from_str(alloc, pattern_in(matches)) {
+        Ok(pattern) => Ok(Sought { pattern, file }),
+        Err(_) => {
+            drop(file);
+            Err(WordFault::Memory)
+        }
+    }
+}
+
+/// The pattern, if no file has them.
+fn pattern_in<'a>(matches: &ArgMatches<'a>) -> &'a str
+    ensures { result.now ≡ pattern_in (rows_in matches.now) }
+{
+    if has_pattern_file(matches) {
+        return "";
+    }
+    match value_of(matches, "regex") {
+        Some(text) => text,
+        None => "",
+    }
+}
+
+/// Whether a pattern is there, with words that go together.
+fn is_grepped(matches: &ArgMatches<'_>) -> bool
+    ensures { result ≡ is_grepped (rows_in matches.now) }
+{
+    (is_sought(matches) && are_marks(matches)) && is_one_kind(matches)
+}
+
+/// Whether a pattern is there, or a file of patterns and at most one operand.
+fn is_sought(matches: &ArgMatches<'_>) -> bool
+    ensures { result ≡ is_sought (rows_in matches.now) }
+{
+    if has_pattern_file(matches) {
+        !is_given(matches, "input")
+    } else {
+        is_given(matches, "regex")
+    }
+}
+
+/// Whether names are shown, or hunks or file patches are written, or their numbered lines.
 fn is_one_kind(matches: &ArgMatches<'_>) -> bool
     ensures { result ≡ is_one_kind (rows_in matches.now) }
 {
-    !(is_given(matches, "output-matching") && shows_names(matches))
+    if is_given(matches, "output-matching") {
+        !shows_names(matches)
+    } else {
+        !is_given(matches, "as-numbered-lines")
+    }
 }
 
 /// Whether a word is given that only names have.
@@ -268,17 +356,52 @@ fn split_of(alloc: Global, matches: &ArgMatches<'_>) -> Result<ToolJob, WordFaul
     if !is_sync(value_of(matches, "sync")) {
         return Err(WordFault::Usage);
     }
-    let Some(text) = value_of(matches, "file") else {
-        return Err(WordFault::Usage);
-    };
-    match split_file(alloc, text) {
+    let names = part_names(alloc, matches)?;
+    match split_input(alloc, matches) {
         Ok(input) => Ok(ToolJob::Split(SplitJob {
             input,
             every: is_used(matches, "every"),
+            names,
+            verbose: is_used(matches, "verbose"),
             skip_binary: true,
             sync: sync_in(matches),
         })),
+        Err(fault) => {
+            drop(names);
+            Err(fault)
+        }
+    }
+}
+
+/// How the parts are named, if the words for it are lawful.
+fn part_names(alloc: Global, matches: &ArgMatches<'_>) -> Result<PartNames, WordFault>
+    ensures names { IfOk result (λ n. plain_part_names n ≡ part_names_of (rows_in matches.now)) }
+    ensures lawful { IfOk result (λ n. are_part_names (rows_in matches.now) ≡ true) }
+    ensures refused { IfErr result (λ fault. (fault ≡ WordFault.Memory) ⊎ ((fault ≡ WordFault.Usage) × (are_part_names (rows_in matches.now) ≡ false))) }
+{
+    if !is_number(value_of(matches, "strip-match")) {
+        return Err(WordFault::Usage);
+    }
+    match read_name(alloc, value_of(matches, "directory")) {
+        Ok(directory) => Ok(PartNames {
+            by_name: is_used(matches, "by-name"),
+            directory,
+            bare: is_used(matches, "bare"),
+            strip: number_or_0(matches, "strip-match"),
+        }),
         Err(fault) => Err(fault),
+    }
+}
+
+/// The file that is cut.
+fn split_input(alloc: Global, matches: &ArgMatches<'_>) -> Result<Name, WordFault>
+    ensures name { IfOk result (λ name. name ≡ option_map_or name_in (value_of (rows_in matches.now) (codes "input")) []) }
+    ensures lawful { IfOk result (λ name. option_map_or is_split_file (value_of (rows_in matches.now) (codes "input")) false ≡ true) }
+    ensures refused { IfErr result (λ fault. (fault ≡ WordFault.Memory) ⊎ ((fault ≡ WordFault.Usage) × (option_map_or is_split_file (value_of (rows_in matches.now) (codes "input")) false ≡ false))) }
+{
+    match value_of(matches, "input") {
+        Some(text) => split_file(alloc, text),
+        None => Err(WordFault::Usage),
     }
 }
 

@@ -214,6 +214,30 @@ pub const FORMAT: Word = Word {
     help: "write file patches in this form",
 };
 
+pub const ANNOTATE: Word = Word {
+    form: WordForm::Switch,
+    letter: None,
+    name: "annotate",
+    shown: "--annotate",
+    help: "tell the number and the name of each hunk",
+};
+
+pub const NUMBERED: Word = Word {
+    form: WordForm::Value,
+    letter: None,
+    name: "as-numbered-lines",
+    shown: "--as-numbered-lines=before|after",
+    help: "write only the lines of that side, with their numbers",
+};
+
+pub const PATTERN_FILE: Word = Word {
+    form: WordForm::Value,
+    letter: Some('f'),
+    name: "file",
+    shown: "-f FILE, --file=FILE",
+    help: "take each line of FILE as a REGEX, and no REGEX",
+};
+
 pub const EXTENDED: Word = Word {
     form: WordForm::Switch,
     letter: Some('E'),
@@ -244,6 +268,46 @@ pub const EVERY: Word = Word {
     name: "every",
     shown: "-a",
     help: "begin a part at each file patch",
+};
+
+pub const BY_NAME: Word = Word {
+    form: WordForm::Letter,
+    letter: Some('d'),
+    name: "by-name",
+    shown: "-d",
+    help: "name parts by their file patches, / being _",
+};
+
+pub const DIRECTORY: Word = Word {
+    form: WordForm::Value,
+    letter: Some('D'),
+    name: "directory",
+    shown: "-D DIR, --directory=DIR",
+    help: "name them so, and put them into DIR",
+};
+
+pub const BARE: Word = Word {
+    form: WordForm::Letter,
+    letter: Some('E'),
+    name: "bare",
+    shown: "-E",
+    help: "end no name with .patch",
+};
+
+pub const PART_STRIP: Word = Word {
+    form: WordForm::Value,
+    letter: Some('p'),
+    name: "strip-match",
+    shown: "-p N, --strip-match=N",
+    help: "take names without the front with N slashes (0)",
+};
+
+pub const PART_LINES: Word = Word {
+    form: WordForm::Letter,
+    letter: Some('v'),
+    name: "verbose",
+    shown: "-v",
+    help: "tell the lines of each part",
 };
 
 pub const PLAN: Word = Word {
@@ -281,7 +345,7 @@ pub const SKIP_BINARY: Word = Word {
 pub const FILE: Word = Word {
     form: WordForm::Operand,
     letter: None,
-    name: "file",
+    name: "input",
     shown: "[FILE]...",
     help: "patch texts; standard input without one, or as -",
 };
@@ -289,7 +353,7 @@ pub const FILE: Word = Word {
 pub const ONE_FILE: Word = Word {
     form: WordForm::Operand,
     letter: None,
-    name: "file",
+    name: "input",
     shown: "[FILE]",
     help: concat!(
         "the patch text; standard input without it, or\n",
@@ -301,7 +365,7 @@ pub const ONE_FILE: Word = Word {
 pub const SPLIT_FILE: Word = Word {
     form: WordForm::Operand,
     letter: None,
-    name: "file",
+    name: "input",
     shown: "FILE",
     help: "the patch text",
 };

@@ -1,10 +1,10 @@
 //! Which file patches a filter means by their names, and the text that it reads and how.
 ghost use Rattle.std.specs.Prelude.{◌≡◌, ◌⊎◌, ◌&&◌, ◌||◌, [], true, false, map, is_some, option_map, unwrap_or, IfOk, IfErr};
 ghost use Rattle.patch_options.specs.Simple.{rows_in};
-ghost use Rattle.patch_options.specs.Table.{value_of};
+ghost use Rattle.patch_options.specs.Table.{text_of, value_of};
 ghost use Rattle.tool_words.specs.PlainJobs.{plain_select};
 ghost use Rattle.tool_words.specs.Asked.{is_subject};
-ghost use Rattle.tool_words.specs.Selecting.{is_input, input_in, is_select, number_or_0, patterns, select_of};
+ghost use Rattle.tool_words.specs.Selecting.{has_pattern_file, is_input, input_in, operand_in, is_select, number_or_0, patterns, select_of};
 
 use crate::Select;
 use clap::ArgMatches;
@@ -117,13 +117,31 @@ fn copied(alloc: Global, texts: &[&str]) -> Result<Vec<Vec<u8>>, AllocError>
     Ok(list)
 }
 
+/// Whether a file has the patterns.
+pub fn has_pattern_file(matches: &ArgMatches<'_>) -> bool
+    ensures { result ≡ has_pattern_file (rows_in matches.now) }
+{
+    is_given(matches, "file")
+}
+
+/// The operand that is the text.
+pub fn operand_in<'a>(matches: &ArgMatches<'a>) -> Option<&'a str>
+    ensures { text_of result ≡ operand_in (rows_in matches.now) }
+{
+    if has_pattern_file(matches) {
+        value_of(matches, "regex")
+    } else {
+        value_of(matches, "input")
+    }
+}
+
 /// The text that is read, which is the operand.
 pub fn read_operand(alloc: Global, matches: &ArgMatches<'_>) -> Result<Input, WordFault>
     ensures input { IfOk result (λ input. input ≡ input_in (rows_in matches.now)) }
     ensures lawful { IfOk result (λ input. is_input (rows_in matches.now) ≡ true) }
     ensures refused { IfErr result (λ fault. (fault ≡ WordFault.Memory) ⊎ ((fault ≡ WordFault.Usage) × (is_input (rows_in matches.now) ≡ false))) }
 {
-    match value_of(matches, "file") {
+    match operand_in(matches) {
         Some(text) => input_of(alloc, text),
         None => Ok(Input::Standard),
     }

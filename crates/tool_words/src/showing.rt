@@ -7,7 +7,7 @@ ghost use Rattle.tool_words.specs.PlainJobs.{plain_select, plain_shown};
 ghost use Rattle.tool_words.specs.Selecting.{input_in, select_of};
 ghost use Rattle.tool_words.specs.Showing.{file_shown, has_patterns, is_shown, label_of, shown_of, shown_strip, shows_file, shows_hunks};
 
-use crate::selecting::{is_given, is_one_given, number_or_0, read_subject};
+use crate::selecting::{is_given, is_one_given, number_or_0, operand_in, read_subject};
 use crate::{ListJob, Shown};
 use clap::ArgMatches;
 use patch_options::{WordFault, is_number, is_used, value_of};
@@ -87,9 +87,7 @@ fn label_of(alloc: Global, matches: &ArgMatches<'_>, mark: &[u8]) -> Result<Vec<
     ensures { IfOk result (λ label. label.items ≡ label_of (rows_in matches.now) mark.now) }
 {
     if shows_file(matches) {
-        let mut label = file_shown(value_of(matches, "file"))
-            .as_bytes()
-            .to_vec(alloc)?;
+        let mut label = file_shown(operand_in(matches)).as_bytes().to_vec(alloc)?;
         label.extend_from_slice(mark)?;
         return Ok(label);
     }

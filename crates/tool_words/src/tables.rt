@@ -4,17 +4,18 @@ ghost use Rattle.patch_options.specs.Simple.{plain_table};
 ghost use Rattle.tool_words.specs.Tables.{list_table, filter_table, grep_table, split_table, input_table, gen_table, stack_table};
 
 use crate::rows::{
-    ADD_PREFIX, ALL, ALL_TEXT, BUFFER, CLEAN, EMPTY_ABSENT, EMPTY_REMOVED, EVERY, EXCLUDE,
-    EXCLUDE_FILE, EXTENDED, FILE, FILE_COUNT, FILES, FORMAT, HUNKS, INCLUDE, INCLUDE_FILE,
-    LINE_COUNT, LINE_NUMBER, LINES, MATCHING, NEW_PREFIX, NO_FILE, NO_STAMPS, NUMBER_FILES,
-    OLD_PREFIX, ONE_FILE, ONLY_MATCH, OPERATION, PLAN, REGEX, SEED, SHOWN_STRIP, SKIP_BINARY,
-    SPLIT_FILE, STATUS, STRIP_MATCH, SYNC, VERBOSE, WITH_FILE, WRITTEN_PREFIX, WRITTEN_STRIP,
+    ADD_PREFIX, ALL, ALL_TEXT, ANNOTATE, BARE, BUFFER, BY_NAME, CLEAN, DIRECTORY, EMPTY_ABSENT,
+    EMPTY_REMOVED, EVERY, EXCLUDE, EXCLUDE_FILE, EXTENDED, FILE, FILE_COUNT, FILES, FORMAT, HUNKS,
+    INCLUDE, INCLUDE_FILE, LINE_COUNT, LINE_NUMBER, LINES, MATCHING, NEW_PREFIX, NO_FILE,
+    NO_STAMPS, NUMBER_FILES, NUMBERED, OLD_PREFIX, ONE_FILE, ONLY_MATCH, OPERATION, PART_LINES,
+    PART_STRIP, PATTERN_FILE, PLAN, REGEX, SEED, SHOWN_STRIP, SKIP_BINARY, SPLIT_FILE, STATUS,
+    STRIP_MATCH, SYNC, VERBOSE, WITH_FILE, WRITTEN_PREFIX, WRITTEN_STRIP,
 };
 use patch_options::Group;
 
 static LIST: [Group; 2] = [
     Group {
-        heading: "What is shown:\n",
+        heading: "",
         words: &[
             STATUS,
             LINE_NUMBER,
@@ -69,6 +70,8 @@ static FILTER: [Group; 4] = [
             OLD_PREFIX,
             NEW_PREFIX,
             NO_STAMPS,
+            ANNOTATE,
+            NUMBERED,
         ],
     },
     Group {
@@ -100,6 +103,9 @@ static GREP: [Group; 2] = [
             SHOWN_STRIP,
             ADD_PREFIX,
             MATCHING,
+            ANNOTATE,
+            NUMBERED,
+            PATTERN_FILE,
             EXTENDED,
             REGEX,
             SKIP_BINARY,
@@ -110,7 +116,17 @@ static GREP: [Group; 2] = [
 
 static SPLIT: [Group; 1] = [Group {
     heading: "",
-    words: &[EVERY, SYNC, SKIP_BINARY, SPLIT_FILE],
+    words: &[
+        EVERY,
+        BY_NAME,
+        DIRECTORY,
+        BARE,
+        PART_STRIP,
+        PART_LINES,
+        SYNC,
+        SKIP_BINARY,
+        SPLIT_FILE,
+    ],
 }];
 
 static INPUT: [Group; 1] = [Group {

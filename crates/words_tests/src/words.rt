@@ -15,7 +15,7 @@ patch|-t => batch: true
 patch|-N => forward: true
 patch|-l => loose: true
 patch|-E => remove_empty: true
-patch|-b => backup: true
+patch|-b => backup: true, numbers: Existing
 patch|-s => silent: true
 patch|--context => only: Some(Context)
 patch|--ed => only: Some(Ed)
@@ -27,16 +27,16 @@ patch|--batch => batch: true
 patch|--forward => forward: true
 patch|--ignore-whitespace => loose: true
 patch|--remove-empty-files => remove_empty: true
-patch|--backup => backup: true
+patch|--backup => backup: true, numbers: Existing
 patch|--backup-if-mismatch =>
 patch|--no-backup-if-mismatch => mismatch_backup: false
 patch|--dry-run => dry_run: true
 patch|--silent => silent: true
 patch|--quiet => silent: true
 patch|--verbose => verbose: true
-patch|-RftNlEbs => reverse: true, force: true, batch: true, forward: true, loose: true, remove_empty: true, backup: true, silent: true
+patch|-RftNlEbs => reverse: true, force: true, batch: true, forward: true, loose: true, remove_empty: true, backup: true, numbers: Existing, silent: true
 patch|-Rp1 => strip: Some(1), reverse: true
-patch|-bp|1|-F0 => strip: Some(1), fuzz: 0, backup: true
+patch|-bp|1|-F0 => strip: Some(1), fuzz: 0, backup: true, numbers: Existing
 patch|-ni-|f|--quiet|--backup-if-mismatch => only: Some(Normal), file: Some("f"), silent: true
 patch|-zR => suffix: Some("R")
 patch|--quiet|--verbose => silent: true, verbose: true
@@ -139,6 +139,9 @@ patch|-V|t => numbers: Always
 patch|-V|nu => numbers: Always
 patch|-Vnumbered => numbers: Always
 patch|-b|--version-control=numbered => backup: true, numbers: Always
+patch|-b|--version-control=never => backup: true
+patch|-b|-z|.old => backup: true, suffix: Some(".old")
+patch|-b|--posix => backup: true, mismatch_backup: false, posix: true
 patch|-V|exist => numbers: Existing
 patch|-Ve => numbers: Existing
 patch|--version-control=nil => numbers: Existing
@@ -225,15 +228,15 @@ lsdiff|-nvE|-p1|--addprefix=ab => Ok(List(ListJob { input: Standard, select: Sel
 lsdiff|-v|-p1|-ia|--empty-files-as-removed => Ok(List(ListJob { input: Standard, select: Select { strip: 1, include: [[97]], exclude: [], include_file: None, exclude_file: None, only_included: true, skip_binary: true }, shown: Shown { numbers: false, hunks: false, status: false, empty_absent: true, strip: 0, prefix: [], label: [], hunk_label: [] }, number_files: false }))
 lsdiff|-H|e => Ok(List(ListJob { input: File("e"), select: Select { strip: 0, include: [], exclude: [], include_file: None, exclude_file: None, only_included: false, skip_binary: true }, shown: Shown { numbers: false, hunks: false, status: false, empty_absent: false, strip: 0, prefix: [], label: [101, 58], hunk_label: [101, 45] }, number_files: false }))
 lsdiff|--with|-hN|- => Ok(List(ListJob { input: Standard, select: Select { strip: 0, include: [], exclude: [], include_file: None, exclude_file: None, only_included: false, skip_binary: true }, shown: Shown { numbers: false, hunks: false, status: false, empty_absent: false, strip: 0, prefix: [], label: [], hunk_label: [] }, number_files: true }))
-filterdiff|--hunks=1,2-5|--lines=-3|-F7-|--format=ed => Ok(Filter(FilterJob { input: Standard, select: Select { strip: 0, include: [], exclude: [], include_file: None, exclude_file: None, only_included: false, skip_binary: true }, hunks: Some(Ranges { items: [(1, 1), (2, 5)], others: false }), lines: Some(Ranges { items: [(0, 3)], others: false }), files: Some(Ranges { items: [(7, 4294967295)], others: false }), format: Some(Ed), verbose: false, style: Style { strip: 0, prefix: None, old_prefix: [], new_prefix: [], no_stamps: false, clean: false } }))
-filterdiff|-v|-#x0,-|--lines|x4-4|--files=0-9 => Ok(Filter(FilterJob { input: Standard, select: Select { strip: 0, include: [], exclude: [], include_file: None, exclude_file: None, only_included: false, skip_binary: true }, hunks: Some(Ranges { items: [(0, 0), (0, 4294967295)], others: true }), lines: Some(Ranges { items: [(4, 4)], others: true }), files: Some(Ranges { items: [(0, 9)], others: false }), format: None, verbose: true, style: Style { strip: 0, prefix: None, old_prefix: [], new_prefix: [], no_stamps: false, clean: false } }))
-filterdiff|--strip=1|--addp|ab|--addold=c|--addnewprefix=d|--remove|--clean|-p2|f => Ok(Filter(FilterJob { input: File("f"), select: Select { strip: 2, include: [], exclude: [], include_file: None, exclude_file: None, only_included: false, skip_binary: true }, hunks: None, lines: None, files: None, format: None, verbose: false, style: Style { strip: 1, prefix: Some([97, 98]), old_prefix: [99], new_prefix: [100], no_stamps: true, clean: true } }))
-filterdiff|--addprefix= => Ok(Filter(FilterJob { input: Standard, select: Select { strip: 0, include: [], exclude: [], include_file: None, exclude_file: None, only_included: false, skip_binary: true }, hunks: None, lines: None, files: None, format: None, verbose: false, style: Style { strip: 0, prefix: Some([]), old_prefix: [], new_prefix: [], no_stamps: false, clean: false } }))
+filterdiff|--hunks=1,2-5|--lines=-3|-F7-|--format=ed => Ok(Filter(FilterJob { input: Standard, select: Select { strip: 0, include: [], exclude: [], include_file: None, exclude_file: None, only_included: false, skip_binary: true }, hunks: Some(Ranges { items: [(1, 1), (2, 5)], others: false }), lines: Some(Ranges { items: [(0, 3)], others: false }), files: Some(Ranges { items: [(7, 4294967295)], others: false }), format: Some(Ed), verbose: false, style: Style { strip: 0, prefix: None, old_prefix: [], new_prefix: [], no_stamps: false, clean: false }, marks: Marks { annotate: false, numbered: None } }))
+filterdiff|-v|-#x0,-|--lines|x4-4|--files=0-9 => Ok(Filter(FilterJob { input: Standard, select: Select { strip: 0, include: [], exclude: [], include_file: None, exclude_file: None, only_included: false, skip_binary: true }, hunks: Some(Ranges { items: [(0, 0), (0, 4294967295)], others: true }), lines: Some(Ranges { items: [(4, 4)], others: true }), files: Some(Ranges { items: [(0, 9)], others: false }), format: None, verbose: true, style: Style { strip: 0, prefix: None, old_prefix: [], new_prefix: [], no_stamps: false, clean: false }, marks: Marks { annotate: false, numbered: None } }))
+filterdiff|--strip=1|--addp|ab|--addold=c|--addnewprefix=d|--remove|--clean|-p2|f => Ok(Filter(FilterJob { input: File("f"), select: Select { strip: 2, include: [], exclude: [], include_file: None, exclude_file: None, only_included: false, skip_binary: true }, hunks: None, lines: None, files: None, format: None, verbose: false, style: Style { strip: 1, prefix: Some([97, 98]), old_prefix: [99], new_prefix: [100], no_stamps: true, clean: true }, marks: Marks { annotate: false, numbered: None } }))
+filterdiff|--addprefix= => Ok(Filter(FilterJob { input: Standard, select: Select { strip: 0, include: [], exclude: [], include_file: None, exclude_file: None, only_included: false, skip_binary: true }, hunks: None, lines: None, files: None, format: None, verbose: false, style: Style { strip: 0, prefix: Some([]), old_prefix: [], new_prefix: [], no_stamps: false, clean: false }, marks: Marks { annotate: false, numbered: None } }))
 lsdiff|--addoldprefix=a => Err(Usage)
-grepdiff|-E|--output-matching=hunk|[a-z]+|f => Ok(Grep(GrepJob { input: File("f"), select: Select { strip: 0, include: [], exclude: [], include_file: None, exclude_file: None, only_included: false, skip_binary: true }, pattern: "[a-z]+", searched: All, output: Hunks, shown: Shown { numbers: false, hunks: false, status: false, empty_absent: false, strip: 0, prefix: [], label: [], hunk_label: [] } }))
-grepdiff|-nvs|-Xd|--strip=1|--addprefix=a|--only-match=additions|x => Ok(Grep(GrepJob { input: Standard, select: Select { strip: 0, include: [], exclude: [], include_file: None, exclude_file: Some("d"), only_included: false, skip_binary: true }, pattern: "x", searched: Added, output: Names, shown: Shown { numbers: true, hunks: true, status: true, empty_absent: false, strip: 1, prefix: [97], label: [], hunk_label: [] } }))
-splitdiff|-a|./a//f/ => Ok(Split(SplitJob { input: "a/f", every: true, skip_binary: true, sync: Each }))
-splitdiff|--skip-binary|f => Ok(Split(SplitJob { input: "f", every: false, skip_binary: true, sync: Each }))
+grepdiff|-E|--output-matching=hunk|[a-z]+|f => Ok(Grep(GrepJob { input: File("f"), select: Select { strip: 0, include: [], exclude: [], include_file: None, exclude_file: None, only_included: false, skip_binary: true }, pattern: "[a-z]+", pattern_file: None, searched: All, output: Hunks, shown: Shown { numbers: false, hunks: false, status: false, empty_absent: false, strip: 0, prefix: [], label: [], hunk_label: [] }, marks: Marks { annotate: false, numbered: None } }))
+grepdiff|-nvs|-Xd|--strip=1|--addprefix=a|--only-match=additions|x => Ok(Grep(GrepJob { input: Standard, select: Select { strip: 0, include: [], exclude: [], include_file: None, exclude_file: Some("d"), only_included: false, skip_binary: true }, pattern: "x", pattern_file: None, searched: Added, output: Names, shown: Shown { numbers: true, hunks: true, status: true, empty_absent: false, strip: 1, prefix: [97], label: [], hunk_label: [] }, marks: Marks { annotate: false, numbered: None } }))
+splitdiff|-a|./a//f/ => Ok(Split(SplitJob { input: "a/f", every: true, names: PartNames { by_name: false, directory: None, bare: false, strip: 0 }, verbose: false, skip_binary: true, sync: Each }))
+splitdiff|--skip-binary|f => Ok(Split(SplitJob { input: "f", every: false, names: PartNames { by_name: false, directory: None, bare: false, strip: 0 }, verbose: false, skip_binary: true, sync: Each }))
 recountdiff|- => Ok(Recount(Standard))
 patchgen|0|1|20 => Ok(Gen(GenJob { seed: 0, files: 1, lines: 20, plan: Auto, buffer: 4294967295, sync: Each }))
 patchgen|4294967295|1|20 => Ok(Gen(GenJob { seed: 4294967295, files: 1, lines: 20, plan: Auto, buffer: 4294967295, sync: Each }))
@@ -256,6 +259,15 @@ patchstack|push|-a => Ok(Stack(StackJob { op: Push, all: true, sync: Each }))
 patchstack|--all|pop|-a => Ok(Stack(StackJob { op: Pop, all: true, sync: Each }))
 patchstack|--a|--sync=none|pop => Ok(Stack(StackJob { op: Pop, all: true, sync: Never }))
 patchgen|--pl=a|--plan=b|0|1|20|--sync=none => Ok(Gen(GenJob { seed: 0, files: 1, lines: 20, plan: Padded, buffer: 65536, sync: Never }))
-splitdiff|-aa|--skip|--skip-binary|--sync=none|f => Ok(Split(SplitJob { input: "f", every: true, skip_binary: true, sync: Never }))
+filterdiff|--annotate|--as-numbered-lines=before => Ok(Filter(FilterJob { input: Standard, select: Select { strip: 0, include: [], exclude: [], include_file: None, exclude_file: None, only_included: false, skip_binary: true }, hunks: None, lines: None, files: None, format: None, verbose: false, style: Style { strip: 0, prefix: None, old_prefix: [], new_prefix: [], no_stamps: false, clean: false }, marks: Marks { annotate: true, numbered: Some(Before) } }))
+filterdiff|--as-numbered-lines=after|--format=context => Err(Usage)
+filterdiff|--as-numbered-lines=old => Err(Usage)
+grepdiff|--as-numbered-lines=after|x => Err(Usage)
+grepdiff|--output-matching=file|--as-num|after|x => Ok(Grep(GrepJob { input: Standard, select: Select { strip: 0, include: [], exclude: [], include_file: None, exclude_file: None, only_included: false, skip_binary: true }, pattern: "x", pattern_file: None, searched: All, output: Files, shown: Shown { numbers: false, hunks: false, status: false, empty_absent: false, strip: 0, prefix: [], label: [], hunk_label: [] }, marks: Marks { annotate: false, numbered: Some(After) } }))
+grepdiff|-nf|p|t => Ok(Grep(GrepJob { input: File("t"), select: Select { strip: 0, include: [], exclude: [], include_file: None, exclude_file: None, only_included: false, skip_binary: true }, pattern: "", pattern_file: Some("p"), searched: All, output: Names, shown: Shown { numbers: true, hunks: false, status: false, empty_absent: false, strip: 0, prefix: [], label: [], hunk_label: [] }, marks: Marks { annotate: false, numbered: None } }))
+grepdiff|--file=p|-H => Ok(Grep(GrepJob { input: Standard, select: Select { strip: 0, include: [], exclude: [], include_file: None, exclude_file: None, only_included: false, skip_binary: true }, pattern: "", pattern_file: Some("p"), searched: All, output: Names, shown: Shown { numbers: false, hunks: false, status: false, empty_absent: false, strip: 0, prefix: [], label: [40, 115, 116, 97, 110, 100, 97, 114, 100, 32, 105, 110, 112, 117, 116, 41, 58], hunk_label: [40, 115, 116, 97, 110, 100, 97, 114, 100, 32, 105, 110, 112, 117, 116, 41, 45] }, marks: Marks { annotate: false, numbered: None } }))
+grepdiff|-fp|x|t => Err(Usage)
+splitdiff|-adEv|-p2|-D|d/e|f => Ok(Split(SplitJob { input: "f", every: true, names: PartNames { by_name: true, directory: Some("d/e"), bare: true, strip: 2 }, verbose: true, skip_binary: true, sync: Each }))
+splitdiff|-aa|--skip|--skip-binary|--sync=none|f => Ok(Split(SplitJob { input: "f", every: true, names: PartNames { by_name: false, directory: None, bare: false, strip: 0 }, verbose: false, skip_binary: true, sync: Never }))
 lsdiff|-ss|--li|--strip=1|--strip=2|-p3|-p4|-ia|--include=b|-Ic|-Id|e => Ok(List(ListJob { input: File("e"), select: Select { strip: 4, include: [[97], [98]], exclude: [], include_file: Some("d"), exclude_file: None, only_included: true, skip_binary: true }, shown: Shown { numbers: true, hunks: false, status: true, empty_absent: false, strip: 2, prefix: [], label: [], hunk_label: [] }, number_files: false }))
 "#;

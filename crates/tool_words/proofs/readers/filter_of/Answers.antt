@@ -1,19 +1,18 @@
-use Rattle.std.proofs.Common.{◌∙◌, ◌&&◌, ap, codes, inr, refl, sym}
+use Rattle.std.proofs.Common.{◌∙◌, ◌&&◌, inr, refl, sym}
 use Rattle.clap.proofs.TakesLemmas.{passed_up}
 use Rattle.outside.proofs.Exits.{if_ok_none}
 use Rattle.patch_options.specs.Simple.{rows_in}
-use Rattle.patch_options.specs.Table.{has_form, value_of}
 use Rattle.patch_options.proofs.Refusing.{refused_as, no_left, no_right, all_yes}
-use Rattle.tool_words.specs.Asked.{are_ranges, is_filter, is_form, is_subject}
+use Rattle.tool_words.specs.Asked.{are_ranges, is_filter, is_formed, is_subject}
 use Rattle.tool_words.specs.Styling.{is_style}
 use Rattle.tool_words.specs.PlainJobs.PlainToolJob.{filter_job}
 use Rattle.tool_words.proofs.readers.filter_of.Goals as goal
 
-pub returns-then-not-is_form : goal.returns-then-not-is_form
-returns-then-not-is_form c = record {
+pub returns-then-not-is_formed : goal.returns-then-not-is_formed
+returns-then-not-is_formed c = record {
   job = tt;
   lawful = tt;
-  refused = inr (refl, no_left _ _ (ap (has_form is_form) (sym c.value_of.ensures) ∙ (sym c.is_form.ensures ∙ c.if-not-is_form.true)));
+  refused = inr (refl, no_left _ _ (sym c.is_formed.ensures ∙ c.if-not-is_formed.true));
 }
 
 pub returns-in_err-style : goal.returns-in_err-style
@@ -38,7 +37,7 @@ returns-in-Err-read_subject c = record {
   lawful = tt;
   refused = (
       let rows = rows_in c.args.matches.now in
-      let form = has_form is_form (value_of rows (codes "format")) in
+      let form = is_formed rows in
       let style = is_style rows in
       let ranges = are_ranges rows in
       let subject = is_subject rows in
@@ -58,8 +57,9 @@ returns-in-Ok-read_subject c = record {
         format = c.form_in.ensures i;
         verbose = c.is_used.ensures i;
         style = c.in_ok-style.ensures.style i;
+        marks = c.marks_in.ensures i;
       }));
-  lawful = all_yes _ _ (ap (has_form is_form) (sym c.value_of.ensures) ∙ (sym c.is_form.ensures ∙ c.if-not-is_form.false))
+  lawful = all_yes _ _ (sym c.is_formed.ensures ∙ c.if-not-is_formed.false)
       (all_yes _ _ c.in_ok-style.ensures.lawful (all_yes _ _ c.in-Ok.ensures.lawful c.in-Ok-read_subject.ensures.lawful));
   refused = tt;
 }

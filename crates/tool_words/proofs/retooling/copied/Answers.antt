@@ -1,6 +1,6 @@
 use Rattle.std.proofs.Common.{◌∷◌, [], ◌++◌, ◌∙◌, ap, map, refl, string_bytes}
 use Rattle.tool_words.proofs.Calling.{all_grown, grown_by}
-use Rattle.tool_words.proofs.calls.copied.Goals as goal
+use Rattle.tool_words.proofs.retooling.copied.Goals as goal
 
 pub loop-word-init : goal.loop-word-init
 loop-word-init c = ap (λ done. map string_bytes done ++ map string_bytes c.args.words.now) c.new-copy.ensures.items
