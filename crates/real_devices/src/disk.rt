@@ -9,7 +9,11 @@ use real_files::{Kind, OpenFiles, Path, Syncs, Trouble};
 use std::alloc::{AllocError, Global};
 use std::fs::File;
 use std::io;
+use std::io::ErrorKind;
 use std::rt::{Files, Stdout};
+
+/// What stands at a name at which no file can be put.
+const NO_FILE: &str = "not a regular file";
 
 /// What the words of a run say of its tree.
 #[derive(Drop)]
@@ -22,8 +26,7 @@ pub struct Places {
     pub root: Option<String>,
     /// The file of its patch text, where that is one.
     pub patch: Option<Name>,
-    /// The file to be patched, the output and the reject file, where the words name them.
-    pub file: Option<Name>,
+    /// The output and the reject file, where the words name them.
     pub output: Option<Name>,
     pub rejects: Option<Name>,
     /// Whether the output is standard output.
@@ -223,8 +226,7 @@ fn size_at<R: Files<File = File>>(
     }
 }
 
-/// Whether a run can begin, and the name that is meant: its directory is there, and no directory stands in place of a file that the
-/// words name, nor a pipe or a device in place of the file to be patched.
+/// Whether a run can begin, and the name that is meant: its directory is there, and what stands at the names of its outputs is known.
 fn begun<'a, R: Files<File = File>>(
     files: &mut OpenFiles<'_, R>,
     places: &'a Places,
@@ -234,21 +236,36 @@ fn begun<'a, R: Files<File = File>>(
             return (root.as_str(), Err(error));
         }
     }
-    if let Some(file) = &places.file {
-        if let Err(error) = files.find_given(Path::of(file)) {
-            return (file.text(), Err(error));
-        }
-    }
     let output = found_output(files, &places.output, places.is_standard);
     if output.1.is_err() {
         return output;
     }
-    if let Some(output) = &places.output {
-        if let Err(error) = files.find_replaced(Path::of(output), places.follows) {
-            return (output.text(), Err(error));
-        }
+    let free = found_free(files, &places.output);
+    if free.1.is_err() {
+        return free;
     }
-    found_output(files, &places.rejects, false)
+    let rejects = found_output(files, &places.rejects, false);
+    if rejects.1.is_err() {
+        return rejects;
+    }
+    found_free(files, &places.rejects)
+}
+
+/// Whether a file can be put at the name, as far as the system tells.
+fn found_free<'a, R: Files<File = File>>(
+    files: &mut OpenFiles<'_, R>,
+    name: &'a Option<Name>,
+) -> (&'a str, io::Result<()>) {
+    match name {
+        Some(name) => match files.is_barred(Path::of(name), false) {
+            Ok(true) => (
+                name.text(),
+                Err(io::Error::new(ErrorKind::AlreadyExists, NO_FILE)),
+            ),
+            _ => (name.text(), Ok(())),
+        },
+        None => (".", Ok(())),
+    }
 }
 
 fn found_output<'a, R: Files<File = File>>(

@@ -1,5 +1,6 @@
 //! Standard input, and the two standard outputs.
-ghost use Rattle.std.specs.Prelude.{◌≤◌, length, IfOk};
+ghost use Rattle.std.specs.Prelude.{◌≤◌, length, IfOk, IsErr};
+ghost use Rattle.outside.specs.Faults.{HasRisen};
 ghost use Rattle.outside.specs.Silent.{silent_source, silent_sink};
 
 use crate::faults::Faults;
@@ -95,12 +96,16 @@ impl<W: Write + Drop> Output<W> {
     }
 
     /// Writes what was gathered.
-    pub fn flush(&mut self) -> io::Result<()> {
-        let done = self.writer.flush();
-        if let Err(error) = done {
-            self.faults.note("standard output", error);
+    pub fn flush(&mut self) -> io::Result<()>
+        ensures cause { IsErr result → HasRisen self.old.faults.count self.new.faults.count }
+    {
+        match self.writer.flush() {
+            Ok(()) => Ok(()),
+            Err(error) => {
+                self.faults.note("standard output", error);
+                Err(error)
+            }
         }
-        done
     }
 
     /// What failed last.

@@ -169,16 +169,22 @@ impl<'r, R: Files<File = File>> OpenFiles<'r, R> {
         how.write(true);
         match self.directories.open(self.rt, &how, place) {
             Ok(_) => Ok(false),
-            Err(error) => Ok(matches!(error.kind(), ErrorKind::PermissionDenied)),
+            Err(error) => Ok(matches!(
+                error.kind(),
+                ErrorKind::PermissionDenied | ErrorKind::ReadOnlyFilesystem
+            )),
         }
     }
 
-    /// The greatest number that a backup of a name has.
+    /// The greatest number that a backup of a name has. What can't be reached has none.
     pub fn last_number(&mut self, name: Path<'_>) -> io::Result<u64> {
         match self.directories.way(self.rt, name, false) {
             Ok(Some(place)) => self.directories.last_number(self.rt, place),
             Ok(None) => Ok(0),
-            Err(error) => Err(error),
+            Err(error) => match or_out_of_reach(Err(error)) {
+                Ok(_) => Ok(0),
+                Err(error) => Err(error),
+            },
         }
     }
 
