@@ -25,8 +25,13 @@ use Rattle.filter_cli.specs.InTurn as turns
 use Rattle.tool_words.specs.Calls.{calls_of}
 use Rattle.gen_cli.specs.Jobs as gen_jobs
 use Rattle.gen_cli.specs.Carries as gen
+use Rattle.patch_filters.specs.RegexView.{regex_view}
+use Rattle.patch_filters.specs.declared.regex_finder.RegexFinder.{RegexFinder}
+use Rattle.program_answers.specs.Ends as program
 use Rattle.stack_cli.specs.Jobs as stack_jobs
 use Rattle.stack_cli.specs.InTurn as stack
+use Rattle.patchkit.specs.Kinds.{kind_of}
+use Rattle.patchkit.specs.declared.kind.Kind.TheVariants.{Patch, Filter, Gen, Stack}
 
 -- the devices themselves at one moment, but for standard error
 pub record Devices (T C F I O : Type 0) : Type 0 where
@@ -92,3 +97,18 @@ GenRuns tree scratch out words d e exit = RunsGen words (worlds.world (tree d.tr
 
 abbrev pub StackRuns : {T C F I O : Type 0} → (T → TreeView) → (C → ScratchView) → (O → SinkView) → List (List ℕ) → Devices T C F I O → Devices T C F I O → Exit → Type 0
 StackRuns tree scratch out words d e exit = RunsStack tree scratch out words d e exit.why exit.applied
+
+-- the same of the words of every tool
+pub record AnyRuns {T C F I O : Type 0} (tree : T → TreeView) (scratch : C → ScratchView) (finder : F → FinderView) (input : I → SourceView) (out : O → SinkView) (words : List (List ℕ)) (d e : Devices T C F I O) (exit : Exit) : Type 0 where
+  pub patch : kind_of words ≡ Patch → PatchRuns tree scratch input out words d e exit
+  pub filter : kind_of words ≡ Filter → FilterRuns tree finder input out words d e exit
+  pub making : kind_of words ≡ Gen → GenRuns tree scratch out words d e exit
+  pub stack : kind_of words ≡ Stack → StackRuns tree scratch out words d e exit
+
+-- what the program does over its devices, with a finder of its own, and how that ends
+pub record ToolsRun {T C I O : Type 0} (tree : T → TreeView) (scratch : C → ScratchView) (input : I → SourceView) (out : O → SinkView) (words : List (List ℕ)) (d e : program.Devices T C I O) (why : Why) : Type 0 where
+  pub before : RegexFinder
+  pub behind : RegexFinder
+  pub exit : Exit
+  pub runs : AnyRuns tree scratch regex_view input out words (devices d.tree d.scratch before d.input d.out) (devices e.tree e.scratch behind e.input e.out) exit
+  pub is : exit.why ≡ why

@@ -6,20 +6,24 @@ mod run_tool;
 
 use outside::{Scratch, Sink, Source, Tree};
 use patch_filters::RegexFinder;
-use program_answers::{Runner, answer};
-use run_answers::Why;
+use program_answers::{Ending, Runner, answer, words_of};
 use run_tool::run;
 use std::alloc::Global;
 use std::process::ExitCode;
 
 fn main(rt: HostRuntime) -> ExitCode {
-    ExitCode::from(answer(&rt, &Tools))
+    let words = words_of(&rt);
+    ExitCode::from(answer(&rt, &Tools, &words))
 }
 
 /// What carries the words of every tool out.
 struct Tools;
 
 impl Runner for Tools {
+    ghost use Rattle.patchkit.specs.Runs.{ToolsRun};
+
+    ghost Runs = { ToolsRun };
+
     fn run<T: Tree, C: Scratch, I: Source, O: Sink, E: Sink>(
         &self,
         alloc: Global,
@@ -29,9 +33,13 @@ impl Runner for Tools {
         input: &mut I,
         out: &mut O,
         err: &mut E,
-    ) -> (Why, C) {
+    ) -> (Ending, C) {
         let mut finder = RegexFinder::new();
         let (exit, scratch) = run(alloc, words, tree, scratch, &mut finder, input, out, err);
-        (exit.why, scratch)
+        let ending = Ending {
+            why: exit.why,
+            status: exit.status,
+        };
+        (ending, scratch)
     }
 }

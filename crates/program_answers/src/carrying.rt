@@ -1,13 +1,15 @@
 //! A run over real files and the standard streams.
+ghost use Rattle.std.specs.Prelude.{◌⊎◌, ◌≡◌, map, string_bytes, IfOk};
+ghost use Rattle.program_answers.specs.Ends.{IsRun};
 
 use crate::helping::put_help;
-use crate::outputs::Outputs;
-use crate::runner::Runner;
-use outside::put_all;
+use crate::outputs::{Outputs, Says};
+use crate::runner::{Ending, Runner};
+use outside::{Scratch, Sink, Source, Tree, put_all};
 use program_words::{Lines, places_of};
-use real_devices::{Disk, Input, Pages};
-use run_answers::Why;
+use real_devices::{Disk, Input, Output, Pages};
 use std::env::VarError;
+use std::rt::Stdin;
 use std::{env, io};
 
 /// The tools that may read a patch text from standard input of which something is said behind the run.
@@ -37,7 +39,9 @@ pub fn run_over<X: Runner>(
     tool: &str,
     words: &[String],
     outputs: &mut Outputs,
-) -> io::Result<Why> {
+) -> io::Result<Ending>
+    ensures ends { IfOk result (λ ending. IsRun (X.Runs ⟦<Disk<'static, HostRuntime> as Tree>⟧.view ⟦<Pages<'static, HostRuntime> as Scratch>⟧.view ⟦<Input<Stdin> as Source>⟧.view ⟦<Output<Says> as Sink>⟧.view) (map string_bytes words.now) ending.status) }
+{
     let alloc = rt.alloc();
     let is_patch = matches!(tool, PATCH | RECOUNT);
     let named = env::var(rt, "TMPDIR");
@@ -48,7 +52,7 @@ pub fn run_over<X: Runner>(
     let mut tree = Disk::new(alloc, rt, places, directory_in(&named), rt.stdout())?;
     let pages = Pages::new(alloc, rt, directory_in(&named))?;
     let mut input = Input::new(alloc, rt.stdin(), is_patch);
-    let (why, pages) = runner.run(
+    let (ending, pages) = runner.run(
         alloc,
         words,
         &mut tree,
@@ -64,12 +68,12 @@ pub fn run_over<X: Runner>(
         rt,
         tool,
         words,
-        why,
+        ending.why,
         &mut tree,
         &input,
         &pages,
         &outputs.out,
     );
     let _ = put_all(&mut outputs.err, lines.text().as_bytes());
-    Ok(why)
+    Ok(ending)
 }

@@ -11,4 +11,5 @@ mod refusing;
 mod runner;
 
 pub use asking::answer;
-pub use runner::Runner;
+pub use program_words::words_of;
+pub use runner::{Ending, Runner};

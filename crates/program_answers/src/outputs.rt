@@ -1,6 +1,9 @@
 //! Standard output and standard error.
+ghost use Rattle.std.specs.Prelude.{◌≡◌, ◌⊎◌};
+ghost use Rattle.outside.specs.SinkView.{Rises};
 
 use crate::refusing::REFUSED;
+use crate::runner::Ending;
 use outside::{Sink, put_all};
 use program_words::{Lines, put_behind};
 use real_devices::{Output, Trouble};
@@ -61,13 +64,15 @@ impl Outputs {
 
     /// Writes out what both have gathered, and answers the exit status. What was said last may not reach its reader, whatever the
     /// answer was.
-    pub fn end(&mut self, alloc: Global, tool: &str, why: Why) -> u8 {
+    pub fn end(&mut self, alloc: Global, tool: &str, ending: Ending) -> u8
+        ensures status { (result ≡ ending.status) ⊎ ((result ≡ 2) × Rises (⟦<Output<Says> as Sink>⟧.view self.old.out) (⟦<Output<Says> as Sink>⟧.view self.new.out)) }
+    {
         let is_written = self.out.flush().is_ok();
-        if !is_written && !matches!(why, Why::WriteFault) {
+        if !is_written && !matches!(ending.why, Why::WriteFault) {
             put_write_fault(alloc, &mut self.err, tool, self.out.trouble());
         }
         let _ = self.err.flush();
-        if is_written { why.status() } else { REFUSED }
+        if is_written { ending.status } else { REFUSED }
     }
 
     /// Lets both go, which is proved with less work where nothing else is at hand.

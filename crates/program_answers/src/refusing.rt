@@ -1,4 +1,5 @@
 //! The answer where nothing is done.
+ghost use Rattle.std.specs.Prelude.{◌≡◌};
 
 use program_words::{Lines, put_usage};
 use std::io::{ErrorKind, Write};
@@ -7,7 +8,9 @@ use std::io::{ErrorKind, Write};
 pub const REFUSED: u8 = 2;
 
 /// The answer where the words can't be had, or memory runs out before the run: a word that isn't UTF-8 is no command.
-pub fn refused(rt: &HostRuntime, tool: &str, kind: ErrorKind) -> u8 {
+pub fn refused(rt: &HostRuntime, tool: &str, kind: ErrorKind) -> u8
+    ensures { result ≡ 2 }
+{
     let mut err = rt.stderr();
     let _ = err.write_all(tool.as_bytes());
     if matches!(kind, ErrorKind::OutOfMemory) {

@@ -5,6 +5,7 @@ use crate::unfit::added;
 use std::alloc::{AllocError, Global};
 use std::env::{Args, Env};
 use std::{env, io};
+use tool_words::asked_words;
 
 /// The program's own name, where there is no tool's.
 const KIT: &str = "patchkit";
@@ -21,12 +22,19 @@ fn tool_named(word: &str) -> Option<&'static str> {
     }
 }
 
-/// The words of the run: the tool, if there is one, and the words behind it.
+/// The words of the run: the tool, if there is one, and the words behind it. A tool that the words make another one is that, in messages too.
 pub fn words_of<R: Env + AllocGlobal>(rt: &R) -> io::Result<Vec<String>> {
-    match words_in(rt.alloc(), env::args(rt)?) {
+    match asked_in(rt.alloc(), env::args(rt)?) {
         Ok(words) => Ok(words),
         Err(error) => Err(io::Error::from(error)),
     }
+}
+
+fn asked_in(alloc: Global, called: Args) -> Result<Vec<String>, AllocError> {
+    let words = words_in(alloc, called)?;
+    let asked = asked_words(alloc, &words);
+    drop(words);
+    asked
 }
 
 /// The words. The first is a path, of which just the tool is taken that it names, if it does.
@@ -43,7 +51,12 @@ fn words_in(alloc: Global, called: Args) -> Result<Vec<String>, AllocError> {
 
 /// The tool for a message, or the program's own name where the first word is no tool.
 pub fn tool_of(words: &[String]) -> &'static str {
-    tool_named(word_at(words, 0)).unwrap_or(KIT)
+    tool_called(word_at(words, 0))
+}
+
+/// The same of the first word.
+pub fn tool_called(first: &str) -> &'static str {
+    tool_named(first).unwrap_or(KIT)
 }
 
 /// The same where the words can't be had.

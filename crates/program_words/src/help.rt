@@ -1,8 +1,14 @@
 //! What the program tells of itself: its tools, and its version; and whose words are asked for.
+ghost use Rattle.std.specs.Prelude.{◌≡◌, true, is_some, map, string_bytes, List, Err, IfOk};
+ghost use Rattle.clap.specs.Words.{Text};
+ghost use Rattle.patch_options.specs.Whole.{whole_words};
+ghost use Rattle.patch_options.specs.Words.{job_of};
+ghost use Rattle.tool_words.specs.Words.{tool_job};
+ghost use Rattle.program_words.specs.Told.{asks, is_asking, is_told, table_by};
 
-use crate::called::tool_of;
+use crate::called::tool_called;
 use crate::wanted::table_of;
-use patch_options::whole_words;
+use patch_options::{WordFault, whole_words};
 use std::alloc::{AllocError, Global};
 use tool_words::{Tool, tool_named};
 
@@ -47,30 +53,58 @@ pub enum Telling {
 
 /// What no word at all asks for, or the first `--help` or `--version` in front of a `--`, whole or cut short. No command has these
 /// words there.
-pub fn told(alloc: Global, words: &[String]) -> Result<Option<Telling>, AllocError> {
-    if words.is_empty() {
-        return Ok(Some(Telling::Text(TOOLS)));
+#[tactic(auto, unfolding(crate::specs::Told::is_told))]
+pub fn told(alloc: Global, words: &[String]) -> Result<Option<Telling>, AllocError>
+    ensures { IfOk result (λ telling. is_some telling ≡ is_told (map string_bytes words.now)) }
+{
+    match words {
+        [first, ..] => told_by(alloc, first.as_str(), words),
+        [] => Ok(Some(Telling::Text(TOOLS))),
     }
-    let tool = tool_of(words);
+}
+
+/// The same of the words of a tool.
+fn told_by(alloc: Global, tool: &str, words: &[String]) -> Result<Option<Telling>, AllocError>
+    ensures { IfOk result (λ telling. is_some telling ≡ asks tool.now (whole_words (table_by tool.now) (map string_bytes words.now))) }
+{
     match whole_words(alloc, table_of(tool), words) {
-        Ok(whole) => Ok(told_in(&whole, tool)),
+        Ok(whole) => Ok(told_in(tool, &whole)),
         Err(error) => Err(error),
     }
 }
 
 /// The same of words whose long names are whole.
-fn told_in(words: &[String], tool: &'static str) -> Option<Telling> {
+fn told_in(tool: &str, words: &[String]) -> Option<Telling>
+    ensures { is_some result ≡ asks tool.now (map string_bytes words.now) }
+{
     for word in words {
-        match word.as_str() {
-            "--help" => return Some(help_of(tool)),
-            "--version" => return Some(Telling::Version(tool)),
-            "-v" if matches!(tool, "patch") => return Some(Telling::Version(tool)),
-            "--" => return None,
-            _ => {}
+        if let Some(telling) = asked_by(tool, word.as_str()) {
+            return Some(telling);
+        }
+        if word.as_str() == "--" {
+            return None;
         }
     }
     None
 }
+
+/// What a word asks for.
+fn asked_by(tool: &str, word: &str) -> Option<Telling>
+    ensures { is_some result ≡ is_asking tool.now word.now }
+{
+    match word {
+        "--help" => Some(help_of(tool)),
+        "--version" => Some(Telling::Version(tool_called(tool))),
+        "-v" if tool == "patch" => Some(Telling::Version(tool_called(tool))),
+        _ => None,
+    }
+}
+
+/// What is told keeps no run back: words that ask for it are no command.
+pub fn no_command_is_told()
+    ensures patch { (words : List Text) → is_told words ≡ true → job_of words ≡ Err WordFault.Usage }
+    ensures tools { (words : List Text) → is_told words ≡ true → tool_job words ≡ Err WordFault.Usage }
+{}
 
 /// The words of a tool, or the tools.
 fn help_of(tool: &str) -> Telling {

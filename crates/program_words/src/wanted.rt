@@ -1,4 +1,7 @@
 //! What an option wants that takes a value, for the line behind a refusal.
+ghost use Rattle.std.specs.Prelude.{◌≡◌};
+ghost use Rattle.patch_options.specs.Simple.{plain_table};
+ghost use Rattle.program_words.specs.Told.{table_by};
 
 use patch_options::{Group, Word, WordForm, patch_table};
 use tool_words::tool_named;
@@ -12,7 +15,9 @@ pub fn wanted_by(tool: &str, option: &str) -> (&'static str, &'static str) {
 }
 
 /// The table of a tool's words.
-pub fn table_of(tool: &str) -> &'static [Group] {
+pub fn table_of(tool: &str) -> &'static [Group]
+    ensures { plain_table result.now ≡ table_by tool.now }
+{
     match tool_named(tool) {
         Some(tool) => tool.table(),
         None => patch_table(),
