@@ -126,14 +126,6 @@ def with_halves(out, of_halves):
     return joined(found)
 
 
-@change(FORMATTED, 'format-halves')
-def without_idle_halves(case, out):
-    """No lines of a half of a context hunk that changes nothing."""
-    def idle(half):
-        return half if any(line[:1] in (b'+', b'-', b'!') for line in half[1:]) else half[:1]
-    return with_halves(out, lambda *pair: [idle(half) for half in pair])
-
-
 @change(FORMATTED, 'patchutils-slips')
 def without_ends(case, out):
     """No second half behind a first one that tells that its last line has no line feed; patchutils loses it."""

@@ -112,15 +112,17 @@ class Style:
             return [f'{self.command} {change.name}']
         return [f'{self.command} {self.sides[0]}{change.name} {self.sides[1]}{change.name}']
 
-    def header(self, change):
-        """The two header lines."""
-        old = self.label(change.name, 0, change.old is not None, True)
+    def header(self, change, before=''):
+        """The two header lines; before stands in front of the old name."""
+        old = self.label(before + change.name, 0, change.old is not None, True)
         new = self.label(change.name, 1, change.new is not None, False)
         return [f'{self.marks[0]} {old}', f'{self.marks[1]} {new}']
 
     def file_patch(self, change):
         """One file patch, with its block; nothing where nothing is changed."""
-        lines = self.block(change) + self.header(change)
+        block = self.block(change)
+        moved = any(line.startswith(('rename from ', 'copy from ')) for line in block)
+        lines = block + self.header(change, 'before/' if moved else '')
         body = hunks(change, self.words)
         return '\n'.join(lines).encode() + b'\n' + body if body else b''
 

@@ -4,7 +4,7 @@ import re
 LONG = [
     (r'--as-numbered-lines', 'as-numbered-lines'),
     (r'--(strip|addprefix|addoldprefix|addnewprefix|remove-timestamps|clean)\b', 'output-names'),
-    (r'--(annotate|number-files|list|filter|grep|hunks|lines|files|format|file|decompress)\b', 'filter-words'),
+    (r'--(annotate|number-files|hunks|lines|files|format|file|decompress)\b', 'filter-words'),
     (r'--(hunk|excl|fo)=', 'filter-words'),
 ]
 LETTERS = {

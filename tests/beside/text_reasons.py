@@ -101,7 +101,7 @@ def damaged_beginnings(case, gnu, ours, differences):
 
 @REASONS.of("blanks-in-numbers")
 def blanks_in_numbers(case, gnu, ours, differences):
-    """Blanks around the numbers of a range line."""
+    """Blanks around the numbers of a unified range line."""
     return differences if case.facts.get("way") == "blanks" and gnu.status != ours.status else []
 
 

@@ -86,7 +86,7 @@ tell("option-words", {b"f": b"a\n"}, ONE, "-p0", "--backup-if-mismatch", "--no-b
 tell("narrow-values", {b"f": b"a\n"}, ONE, "-p0", "-D", "A B")
 tell("set-times", {b"f": b"a\n"}, ONE.replace(b" f\n", b" f\t2009-03-13 00:00:00\n"), "-p0", "-T", "-f", shows=("time", b"f"), env={"TZ": "EST5"}, times={b"f": 1000000000})
 tell("backup-times", {b"f": b"a\n"}, ONE, "-p0", "-b", shows=("time", b"f.orig"), times={b"f": 1000000000})
-tell("backup-names", {b"f": b"a\n", b"f.~1~": b"b\n"}, ONE, "-p0", "-b", shows=("extra", b"f.orig"))
+tell("backup-names", {b"f": b"x\na\n", b"f.~1~": b"b\n"}, ONE, "-p0", shows=("extra", b"f.orig"))
 tell("reserved-names", {b"f.ptmp": b"a\n"}, ONE.replace(b" f\n", b" f.ptmp\n"))
 tell("merge", {b"f": b"a\n"}, ONE, "-p0", "--merge")
 tell("root-directory", {b"f": b"a\n"}, ONE, "-d", "/")
