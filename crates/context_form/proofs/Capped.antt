@@ -1,21 +1,12 @@
 -- A number that was read with its cap, and what it is without.
-use Rattle.std.proofs.Common.{◌≡◌, ℕ, ◌^◌, ◌<◌, ◌≤◌, min, Bool, true, false, cond, eqb, List, [], ◌∷◌, drop, Option, None, Some, refl, sym, ap, ◌∙◌, arith}
+use Rattle.std.proofs.Common.{◌≡◌, ℕ, ◌^◌, min, Bool, true, false, cond, eqb, List, [], ◌∷◌, Option, None, Some, refl, sym, ap, ◌∙◌}
 use Rattle.std.specs.Prelude.{nat_lt}
 use Rattle.std.proofs.lemmas.Option.{same_Some}
 use Rattle.hunk_core.specs.LineTests.{after}
 use Rattle.hunk_core.proofs.TextLemmas.{after-takes}
-use Rattle.num_text.specs.Numbers.{is_digit, value_after, number_at, after_digits, IsNumberAt}
+use Rattle.num_text.specs.Numbers.{is_digit, value_after, number_at, after_digits}
 use Rattle.num_text.specs.NumberRanges.{capped, capped_at}
 use Rattle.context_form.specs.Ranges.{unblanked, with_later, behind_number, from_number, spaced_at}
-
-least : (n : ℕ) → n < 2 ^ 32 → min n (2 ^ 32) ≡ n
-least n small = omega (arith, small)
-
-pub capped-value : (bytes : List ℕ) (value end n : ℕ) → IsNumberAt bytes 0 value end → n ≡ value → capped_at bytes ≡ Some (n, drop end bytes)
-capped-value bytes value end n at e = ap capped at.number ∙ ap (λ k. Some (k, drop end bytes)) (least value at.fits ∙ sym e)
-
-pub value-small : (n value : ℕ) → value < 2 ^ 32 → n ≡ value → n ≤ 2 ^ 32
-value-small n value small e = omega (arith, small, e)
 
 record Read (bytes : List ℕ) (first : ℕ) (rest : List ℕ) : Type 0 where
   value : ℕ

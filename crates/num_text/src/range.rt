@@ -18,8 +18,8 @@ pub struct NumberRange {
     pub is_turned: bool,
 }
 
-/// A number, and what stands after it.
-fn read_capped(bytes: &[u8]) -> Option<(u64, &[u8])>
+/// A number, which counts as 2^32 where it is larger, and what stands after it.
+pub fn read_capped(bytes: &[u8]) -> Option<(u64, &[u8])>
     ensures exact { IsReadAs (λ x. (x.0, x.1.now)) result (capped_at bytes.now) }
     ensures small { IfSome result (λ x. x.0 ≤ 2 ^ 32) }
 {
@@ -44,7 +44,7 @@ fn digit_before(bytes: &[u8], end: usize, far: usize) -> u8
 }
 
 /// Whether the number at the front of the first is below that of the second, however large both are.
-fn is_below(bytes: &[u8], others: &[u8]) -> bool
+pub fn is_below(bytes: &[u8], others: &[u8]) -> bool
     ensures { result ≡ nat_lt (value_after 0 bytes.now) (value_after 0 others.now) }
 {
     let end = digits_end(bytes, 0);

@@ -2,20 +2,27 @@
 #![tactic(auto)]
 
 mod calls;
+mod choosing_rows;
+mod filtering;
 mod help;
 mod jobs;
+mod listing;
+mod listing_rows;
 mod marking;
 mod operands;
 mod ranges;
 mod readers;
 mod retooling;
 mod rows;
+mod searching;
 mod selecting;
 mod showing;
+mod splitting;
 mod styling;
 mod tables;
 mod tools;
 mod words;
+mod writing_rows;
 
 pub use calls::calls_of;
 pub use help::usage;

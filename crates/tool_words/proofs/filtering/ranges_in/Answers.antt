@@ -5,7 +5,7 @@ use Rattle.patch_options.specs.Table.{has_form}
 use Rattle.patch_options.proofs.Refusing.{refused_as, no_left, no_right, all_yes}
 use Rattle.tool_words.specs.Asked.{is_ranges}
 use Rattle.tool_words.specs.Ranges.{ranges_of}
-use Rattle.tool_words.proofs.readers.ranges_in.Goals as goal
+use Rattle.tool_words.proofs.filtering.ranges_in.Goals as goal
 
 pub returns-in_err-hunks : goal.returns-in_err-hunks
 returns-in_err-hunks c = record {

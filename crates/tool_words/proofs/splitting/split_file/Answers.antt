@@ -2,7 +2,7 @@ use Rattle.std.proofs.Common.{◌∙◌, ap, inr, not, refl, sym}
 use Rattle.std.proofs.lemmas.Result.{IfErr-weaker, IfOk-weaker}
 use Rattle.patch_options.proofs.Refusing.{refused_as, no_left, no_right, all_yes}
 use Rattle.tool_words.specs.Asked.{is_split_file}
-use Rattle.tool_words.proofs.readers.split_file.Goals as goal
+use Rattle.tool_words.proofs.splitting.split_file.Goals as goal
 
 pub returns-clause-refused : goal.returns-clause-refused
 unfolding is_split_file

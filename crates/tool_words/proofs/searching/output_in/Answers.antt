@@ -5,7 +5,7 @@ use Rattle.tool_words.specs.Asked.{grep_out_of, is_grep_out}
 use Rattle.tool_words.specs.declared.jobs.GrepOut.{GrepOut}
 use Rattle.tool_words.specs.declared.jobs.GrepOut.TheVariants.{Names}
 use Rattle.tool_words.proofs.Making.{given_or}
-use Rattle.tool_words.proofs.readers.output_in.Goals as goal
+use Rattle.tool_words.proofs.searching.output_in.Goals as goal
 
 pub returns-in-Some : goal.returns-in-Some
 returns-in-Some c = record {

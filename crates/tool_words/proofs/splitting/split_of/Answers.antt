@@ -5,7 +5,7 @@ use Rattle.patch_options.specs.Forms.{sync_of}
 use Rattle.patch_options.specs.Table.{has_form}
 use Rattle.patch_options.proofs.Refusing.{refused_as, no_left, no_right, all_yes}
 use Rattle.tool_words.specs.PlainJobs.PlainToolJob.{split_job}
-use Rattle.tool_words.proofs.readers.split_of.Goals as goal
+use Rattle.tool_words.proofs.splitting.split_of.Goals as goal
 
 pub returns-then-not-is_sync : goal.returns-then-not-is_sync
 returns-then-not-is_sync c = record {

@@ -2,7 +2,7 @@ use Rattle.std.proofs.Common.{◌∙◌, ap}
 use Rattle.patch_options.specs.Simple.{rows_in}
 use Rattle.tool_words.specs.PlainJobs.PlainToolJob.{list_job}
 use Rattle.tool_words.specs.Showing.{shown_of}
-use Rattle.tool_words.proofs.readers.list_of.Goals as goal
+use Rattle.tool_words.proofs.listing.list_of.Goals as goal
 
 pub returns-in-Err : goal.returns-in-Err
 returns-in-Err c = record {

@@ -4,7 +4,7 @@ use Rattle.patch_options.specs.Forms.{is_name}
 use Rattle.patch_options.specs.Table.{has_form}
 use Rattle.patch_options.proofs.Refusing.{refused_as, no_left, no_right, all_yes}
 use Rattle.tool_words.specs.Selecting.{is_number, name_in}
-use Rattle.tool_words.proofs.readers.part_names.Goals as goal
+use Rattle.tool_words.proofs.splitting.part_names.Goals as goal
 
 pub returns-then-not-is_number : goal.returns-then-not-is_number
 returns-then-not-is_number c = record {

@@ -6,7 +6,7 @@ use Rattle.patch_options.specs.Forms.{is_name}
 use Rattle.patch_options.specs.Table.{has_form}
 use Rattle.patch_options.proofs.Refusing.{refused_as}
 use Rattle.tool_words.specs.Selecting.{name_in}
-use Rattle.tool_words.proofs.readers.read_sought.Goals as goal
+use Rattle.tool_words.proofs.searching.read_sought.Goals as goal
 
 pub returns-in_err-file : goal.returns-in_err-file
 returns-in_err-file c = record {

@@ -5,7 +5,7 @@ use Rattle.tool_words.specs.Asked.{searched_of, is_searched}
 use Rattle.tool_words.specs.declared.jobs.Searched.{Searched}
 use Rattle.tool_words.specs.declared.jobs.Searched.TheVariants.{All}
 use Rattle.tool_words.proofs.Making.{given_or}
-use Rattle.tool_words.proofs.readers.searched_in.Goals as goal
+use Rattle.tool_words.proofs.searching.searched_in.Goals as goal
 
 pub returns-in-Some : goal.returns-in-Some
 returns-in-Some c = record {

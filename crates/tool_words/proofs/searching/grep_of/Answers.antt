@@ -7,7 +7,7 @@ use Rattle.patch_options.specs.Simple.{rows_in}
 use Rattle.patch_options.specs.Table.{has_form, value_of}
 use Rattle.tool_words.specs.Asked.{is_grep, is_grep_out, is_grepped, is_list, is_searched}
 use Rattle.tool_words.specs.PlainJobs.PlainToolJob.{grep_job}
-use Rattle.tool_words.proofs.readers.grep_of.Goals as goal
+use Rattle.tool_words.proofs.searching.grep_of.Goals as goal
 
 pub returns-then-not-is_grepped : goal.returns-then-not-is_grepped
 returns-then-not-is_grepped c = record {

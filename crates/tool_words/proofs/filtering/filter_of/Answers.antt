@@ -6,7 +6,7 @@ use Rattle.patch_options.proofs.Refusing.{refused_as, no_left, no_right, all_yes
 use Rattle.tool_words.specs.Asked.{are_ranges, is_filter, is_formed, is_subject}
 use Rattle.tool_words.specs.Styling.{is_style}
 use Rattle.tool_words.specs.PlainJobs.PlainToolJob.{filter_job}
-use Rattle.tool_words.proofs.readers.filter_of.Goals as goal
+use Rattle.tool_words.proofs.filtering.filter_of.Goals as goal
 
 pub returns-then-not-is_formed : goal.returns-then-not-is_formed
 returns-then-not-is_formed c = record {

@@ -1,5 +1,5 @@
 use Rattle.std.proofs.Common.{refl, inr, sym}
-use Rattle.tool_words.proofs.readers.split_input.Goals as goal
+use Rattle.tool_words.proofs.splitting.split_input.Goals as goal
 
 pub returns-in-Some : goal.returns-in-Some
 returns-in-Some c = rw (sym c.in-Some.ensures) c.split_file.ensures
