@@ -112,6 +112,10 @@ is_backup_apart t w other = not (bytes_eq w.backup w.name) && not (renames t.ite
 abbrev pub is_backup_due : PlainTurn → Target → Target → List Verdict → Bool
 is_backup_due t w other vs = not (was_written t.past w.name) && is_backup_apart t w other && is_backup_asked t vs
 
+-- it is due since hunks that were placed stand elsewhere than they say, or others failed, and not since `-b` asks for each
+abbrev pub is_mismatch_kept : PlainTurn → Target → Target → List Verdict → Bool
+is_mismatch_kept t w other vs = not t.options.backup && some_placed vs && is_backup_due t w other vs
+
 -- without a hunk the target is written where a file is made, renamed or copied, an empty one is taken away, or a file that stays gets a mode
 abbrev pub is_made_bare : PlainTurn → Tried → Bool
 is_made_bare t x = acts_new x.side t.item.patch || moves t.item.patch || (if acts_deleted x.side t.item.patch then is_taken_away t x && is_nothing x.text else is_set (mode_asked t.options x.side t.item.patch))

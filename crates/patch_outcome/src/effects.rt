@@ -1,6 +1,6 @@
 //! The effects of a file patch whose hunks were tried.
 
-ghost use Rattle.std.specs.Prelude.{◌≡◌, ◌≢◌, ◌≤◌, ◌||◌, ◌+◌, ◌&&◌, if◌then◌else◌, ℕ, List, true, false, not, length, count_by, bytes_eq, is_some, is_none, Some, IfOk, OnOk, OnErr};
+ghost use Rattle.std.specs.Prelude.{◌≡◌, ◌≢◌, ◌≤◌, ◌||◌, ◌+◌, ◌&&◌, if◌then◌else◌, List, true, false, not, length, count_by, bytes_eq, is_some, is_none, Some, IfOk, OnOk, OnErr};
 ghost use Rattle.std.specs.List.{list_any};
 ghost use Rattle.std.specs.FinMap.{get};
 ghost use Rattle.outside.specs.Files.{Files};
@@ -8,7 +8,7 @@ ghost use Rattle.outside.specs.TreeView.{Rises};
 ghost use Rattle.outside.specs.Calls.{IsThere, IsUntouched};
 ghost use Rattle.outside.specs.Quiet.{IsQuiet, Holds};
 ghost use Rattle.hunk_core.specs.declared.Verdict.{Verdict};
-ghost use Rattle.hunk_apply.specs.Session.{is_failed, is_inexact};
+ghost use Rattle.hunk_apply.specs.Session.{is_placed, is_failed, is_inexact};
 ghost use Rattle.hunk_apply.specs.Written.{is_nothing};
 ghost use Rattle.reject_text.specs.Rejects.{AreHunks};
 ghost use Rattle.file_patch.specs.PlainPatch.{row_count};
@@ -16,7 +16,7 @@ ghost use Rattle.patch_options.specs.PlainJob.{plain_options};
 ghost use Rattle.patch_task.specs.Asking.{renames, mode_asked};
 ghost use Rattle.patch_task.specs.Times.{time_asked};
 ghost use Rattle.patch_task.specs.Outputs.{Tried, IsSession};
-ghost use Rattle.patch_outcome.specs.Outcome.{is_backup_due, is_backup_apart, is_made_bare, is_taken_away, is_old_kept, is_written, is_unwanted, is_always_put, is_removal, is_moving, keeps_old, written_effects, effects_of, wrote, has_rejects};
+ghost use Rattle.patch_outcome.specs.Outcome.{is_backup_due, is_backup_apart, is_made_bare, is_taken_away, is_old_kept, is_mismatch_kept, is_written, is_unwanted, is_always_put, is_removal, is_moving, keeps_old, written_effects, effects_of, wrote, has_rejects};
 ghost use Rattle.patch_task.specs.Making.{Makes, GoesQuietly, IsGone, IsTidy};
 ghost use Rattle.patch_task.specs.Named.{IsNamed};
 ghost use Rattle.patch_outcome.specs.TurnView.{plain_turn, IsTurn};
@@ -72,8 +72,8 @@ pub fn make_effects<T: Tree>(
     Ok(with_reject(made, rejected))
 }
 
-/// Whether hunks were rejected.
-fn is_rejected(turn: &Turn<'_>, session: &Session) -> bool
+/// Whether hunks were rejected that go to a reject file.
+pub fn is_rejected(turn: &Turn<'_>, session: &Session) -> bool
     ensures rejected { (vs : List Verdict) → session.now.failed ≡ count_by is_failed vs → result ≡ has_rejects (plain_turn turn.now) vs }
     ensures hunks { result ≡ true → AreHunks turn.now.task.patch.now.change }
 {
@@ -233,6 +233,18 @@ fn is_backup_due(turn: &Turn<'_>, target: &Target, other: &Target, session: &Ses
         return false;
     }
     !was_written(turn, &target.name)
+}
+
+/// Whether a target gets a backup since hunks that were placed stand elsewhere than they say, or others failed, and not since `-b`
+/// asks for each; a rename has another target.
+pub fn is_mismatch_kept(turn: &Turn<'_>, target: &Target, other: &Target, session: &Session) -> bool
+    requires turn { IsTurn turn.now }
+    ensures kept { (vs : List Verdict) → session.now.applied ≡ count_by is_placed vs → session.now.inexact ≡ list_any is_inexact vs → result ≡ is_mismatch_kept (plain_turn turn.now) target.now other.now vs }
+{
+    if turn.task.options.backup {
+        return false;
+    }
+    session.applied > 0 && is_backup_due(turn, target, other, session)
 }
 
 /// Whether the bytes of a target that isn't written are kept; a rename has another target.

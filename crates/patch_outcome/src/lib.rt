@@ -8,7 +8,7 @@ mod saying;
 mod turn;
 mod written;
 
-pub use effects::make_effects;
+pub use effects::{is_mismatch_kept, is_rejected, make_effects};
 pub use rejects::swap_rejects;
 pub use saying::{is_kept, is_unrejected, tell};
 pub use turn::Turn;

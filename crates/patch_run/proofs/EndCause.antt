@@ -44,7 +44,7 @@ try_device u w a b (FileTooLong count) cause = absurd cause
 try_device u w a b (Disagree want got) cause = tt
 try_device u w a b Memory cause = absurd cause
 
-device_quiet : (R : Type 0) (w : TreeView) (e : RunFault) → IsDeviceFault e → QuietAfter {R = R} (Err e) w
+pub device_quiet : (R : Type 0) (w : TreeView) (e : RunFault) → IsDeviceFault e → QuietAfter {R = R} (Err e) w
 device_quiet R w Tree device = tt
 device_quiet R w Write device = tt
 device_quiet R w Scratch device = tt
@@ -57,7 +57,7 @@ pub quiet_passed : {R : Type 0} (w : TreeView) (e : RunFault) (r : Result R RunF
 quiet_passed w e (Ok x) is device = absurd is
 quiet_passed {R = R} w e (Err y) is device = subst (λ (x : RunFault). QuietAfter {R = R} (Err x) w) (sym is) (device_quiet R w e device)
 
-end_run : (u v w : TreeView) (a b : Seen) (c d : SinkView) (e : RunFault) → Passes u v → HasEndCause e v w c d → HasRunCause e u w a b c d
+pub end_run : (u v w : TreeView) (a b : Seen) (c d : SinkView) (e : RunFault) → Passes u v → HasEndCause e v w c d → HasRunCause e u w a b c d
 end_run u v w a b c d Tree passes cause = rises_then u v w passes cause
 end_run u v w a b c d Write passes cause = cause
 end_run u v w a b c d Scratch passes cause = absurd cause

@@ -6,6 +6,7 @@ mod RunEnds
 mod Applying
 mod Turning
 mod Refused
+mod Barred
 mod EndCause
 mod DoneNone
 mod BackedUp

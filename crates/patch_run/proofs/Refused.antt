@@ -1,10 +1,10 @@
--- A file patch that something is in the way of: not all is told, since no start that is told refuses it.
-use Rattle.std.proofs.Common.{◌≡◌, ◌≢◌, inl, inr, ⊎_elim, ℕ, ◌≤◌, List, Bool, true, false, not, ◌||◌, if◌then◌else◌, Option, Result, Ok, Err, IfOk, IfErr, OnOk, refl, sym, ◌∙◌, ap, arith}
+-- A file patch that something is in the way of: the tree tells no files, since no start over one that tells them refuses it.
+use Rattle.std.proofs.Common.{◌≡◌, ◌≢◌, ◌⊎◌, inl, inr, ⊎_elim, ℕ, ◌≤◌, List, replicate, Bool, true, false, not, ◌||◌, if◌then◌else◌, Option, Result, Ok, Err, IfOk, IfErr, OnOk, refl, sym, ◌∙◌, ap, subst, arith}
 use Rattle.std.proofs.lemmas.Bool.{false≢true}
 use Rattle.std.proofs.lemmas.Option.{same_Some}
 use Rattle.std.specs.FinMap.{get, insert, remove}
 use Rattle.outside.specs.Files.{Files, is_temp}
-use Rattle.outside.specs.Calls.{Becomes}
+use Rattle.outside.specs.Calls.{Becomes, IsUntouched}
 use Rattle.outside.proofs.Names.{equal_or_not, get-gone, get-gone_other, get-put_other, apart}
 use Rattle.outside.specs.TreeView.{TreeView, Passes, passes_both}
 use Rattle.outside.specs.SinkView.{SinkView, SinkPasses, sink_passes_both}
@@ -12,20 +12,21 @@ use Rattle.outside.specs.Quiet.{IsQuiet}
 use Rattle.outside.proofs.Views.{untouched_quiet, rises_then}
 use Rattle.hunk_core.specs.declared.Side.{Side}
 use Rattle.hunk_core.specs.declared.Verdict.{Verdict}
+use Rattle.hunk_core.specs.declared.Verdict.TheVariants.{Nowhere}
 use Rattle.line_store.specs.Store.{Seen}
 use Rattle.patch_task.specs.declared.fault.RunFault.{RunFault}
 use Rattle.patch_task.specs.declared.fault.RunFault.TheVariants.{Tree, Write, Scratch, LongLine, FileTooLong, Disagree, Memory}
 use Rattle.patch_start.specs.declared.starting.Decision.{Decision}
-use Rattle.patch_start.specs.declared.starting.Decision.TheVariants.{Skip, Refuse, Try}
+use Rattle.patch_start.specs.declared.starting.Decision.TheVariants.{Refuse}
 use Rattle.patch_start.specs.Devices.{HasRunCause}
-use Rattle.patch_start.specs.Starting.{Starts, IsDecided}
+use Rattle.patch_start.specs.Starting.{Starts, IsFree}
 use Rattle.patch_task.specs.Asking.{is_bare}
 use Rattle.patch_task.specs.Making.{IsTidy, TidyAfter}
 use Rattle.patch_task.proofs.Tidy.{tidy_both, untouched_tidy}
 use Rattle.patch_run.specs.declared.one_patch.Done.{Done}
-use Rattle.patch_run.specs.OnePatch.{PlainTurn, Start, skips, refuses, tries, bytes_of, is_unrejected, start, ending}
+use Rattle.patch_run.specs.OnePatch.{PlainTurn, bytes_of, is_unrejected, start, ending}
 use Rattle.patch_run.specs.Refused.{saves_refused}
-use Rattle.patch_run.specs.Doing.{QuietAfter, HasEndCause, IsUntold, Does}
+use Rattle.patch_run.specs.Doing.{QuietAfter, HasEndCause, IsUntold, IsRefused, ArePlaced, Does}
 use Rattle.patch_run.proofs.Going.{Goes, cause_then}
 
 -- ---- whether its hunks go to a reject file
@@ -62,6 +63,10 @@ put_was P saved (Err e) is put = tt
 pub one_put : (saved : Bool) (n : ℕ) → n ≡ (if saved then 1 else 0) → n ≡ 1 → saved ≡ true
 one_put true n is one = refl
 one_put false n is one = absurd (let e : 0 ≡ 1 = sym is ∙ one in omega (arith, e))
+
+pub none_put : (saved : Bool) (n : ℕ) → n ≡ (if saved then 1 else 0) → n ≡ 0 → saved ≡ false
+none_put true n is none = absurd (let e : 1 ≡ 0 = sym is ∙ none in omega (arith, e))
+none_put false n is none = refl
 
 pub few_put : (saved : Bool) (n : ℕ) → n ≡ (if saved then 1 else 0) → n ≤ 1
 few_put true n is = omega (arith, is)
@@ -116,13 +121,8 @@ tidy_after Memory u v z d e is = absurd is
 
 module _ (t : PlainTurn) (u v : TreeView) (a b : Seen) (c d : SinkView) (scratch_after : ℕ → List ℕ → Option (List ℕ) → Option (List ℕ)) (decision : Decision) (begins : Starts u v a b c d scratch_after (Ok decision) (bytes_of t) (start t))
     (place : ℕ) (side : Side) (is : decision ≡ Refuse place side) where
-  no_start : (f : Files) (s : Start) → IsDecided decision b (bytes_of t f) s → ⊥
-  no_start f (skips said row taken) decided = let e : Refuse place side ≡ Skip row = sym is ∙ decided in cc
-  no_start f (refuses said fault) decided = decided
-  no_start f (tries said other from) decided = let e : Refuse place side ≡ Try other from = sym is ∙ decided.0 in cc
-
-  pub untold_at : IsUntold u a
-  untold_at f told = no_start f (start t f) (begins.decided f told)
+  pub untold_at : IsUntold u
+  untold_at = subst (IsFree u) is begins.free
 
   pub refuse_does : (z : TreeView) (e : SinkView) (vs : List Verdict) (r : Result Done RunFault) → IsQuiet u → Passes v z → SinkPasses d e → IfErr r (λ x. HasEndCause x v z d e) → OnOk r (IsQuiet z) → OnOk r (IsTidy v z)
       → Does u z a b c e scratch_after r vs (ending t)
@@ -130,7 +130,7 @@ module _ (t : PlainTurn) (u v : TreeView) (a b : Seen) (c d : SinkView) (scratch
     stays = record { tree = passes_both begins.untouched.passes passes; plan = begins.plan; sink = sink_passes_both begins.sink received; cause = tt };
     quiet = calm;
     tidy = tidy_both u v z begins.untouched.passes (untouched_tidy begins.untouched) tidy;
-    whole = λ f told. absurd (untold_at f told);
+    whole = λ f told. absurd (untold_at f told.0);
     broken = tt;
     order = tt;
     kept = tt;
@@ -142,7 +142,12 @@ module _ (t : PlainTurn) (u v : TreeView) (a b : Seen) (c d : SinkView) (scratch
         quiet = calm_after fault v z d e cause;
         tidy = tidy_after fault u v z d e cause;
         whole = tt;
-        broken = λ f told. absurd (untold_at f told);
-        order = λ f told. absurd (untold_at f told);
-        kept = λ f told. absurd (untold_at f told);
+        broken = λ f told. absurd (untold_at f told.0);
+        order = λ f told. absurd (untold_at f told.0);
+        kept = λ f told. absurd (untold_at f told.0);
       }
+
+-- where a file patch is refused once its start left the tree as it is, the tree told no files before it either
+pub placed_before : {u v : TreeView} (t : PlainTurn) (done : Done) (count : ℕ) (verdicts placed : List Verdict) → IsUntouched u v → ((verdicts ≡ placed) ⊎ ((IsUntold v × IsRefused t done) × (verdicts ≡ replicate count Nowhere)))
+    → ArePlaced (IsUntold u × IsRefused t done) count verdicts placed
+placed_before t done count verdicts placed same are = inr (⊎_elim (λ is. inl is) (λ refused. inr ((λ f told. refused.0.0 f (same.told ∙ told), refused.0.1), refused.1)) are)

@@ -3,7 +3,7 @@ use Rattle.std.proofs.Common.{◌≡◌, inl, inr, ⊎_elim, ℕ, ◌+◌, ◌<�
 use Rattle.std.proofs.lemmas.List.{take_more, take_more_set, take_all, same_from_push}
 use Rattle.std.specs.Result.{IsErrAnd}
 use Rattle.outside.specs.Files.{Files}
-use Rattle.outside.specs.TreeView.{TreeView, passes_both}
+use Rattle.outside.specs.TreeView.{TreeView, passes_both, told_on}
 use Rattle.outside.specs.SinkView.{SinkView, sink_passes_both}
 use Rattle.hunk_core.specs.declared.Verdict.{Verdict}
 use Rattle.patch_task.specs.Outputs.{verdicts_over}
@@ -26,7 +26,7 @@ use Rattle.patch_run.specs.Doing.{QuietAfter, Does, IsCutOff, IsCutAt, Runs, Non
 use Rattle.patch_task.proofs.Tidy.{tidy_both, unless_then}
 use Rattle.patch_run.proofs.Folding.{cut_moments}
 use Rattle.patch_outcome.proofs.Marks.{rows-last}
-use Rattle.patch_run.proofs.Going.{Goes, IsAt, IsNext, told_then, run_to, same-items, same-run, all-run, plan_both, cause_then, at_fault, at_cut}
+use Rattle.patch_run.proofs.Going.{Goes, IsAt, IsNext, run_to, same-items, same-run, all-run, plan_both, cause_then, at_fault, at_cut}
 
 quiet_still : (R S : Type 0) (w : TreeView) (fault : RunFault) → QuietAfter {R = R} (Err fault) w → QuietAfter {R = S} (Err fault) w
 quiet_still R S w Tree quiet = tt
@@ -149,5 +149,5 @@ pub placed_earlier : (Later Untold : Type 0) (count : ℕ) (verdicts placed : Li
 placed_earlier Later Untold count verdicts placed back are =
     ⊎_elim (λ ignored. inl ignored) (λ rest. inr (⊎_elim (λ same. inl same) (λ refused. inr (back refused.0, refused.1)) rest)) are
 
-pub untold_earlier : {u v : TreeView} {a b : Seen} {c d : SinkView} → Goes u v a b c d → IsUntold v b → IsUntold u a
-untold_earlier goes untold f told = let mid = told_then f goes told in untold mid.0 mid.1
+pub untold_earlier : {u v : TreeView} {a b : Seen} {c d : SinkView} → Goes u v a b c d → IsUntold v → IsUntold u
+untold_earlier goes untold f told = let mid = told_on f goes.tree told in untold mid.0 mid.1

@@ -34,6 +34,7 @@ use Rattle.patch_set.specs.declared.set.Row.{Row}
 use Rattle.patch_set.specs.SetView.{SetView}
 use Rattle.patch_run.specs.Applied.{Receipt}
 use Rattle.patch_outcome.specs.Ready.{rows_in}
+use Rattle.patch_run.specs.Refused.{saves_refused}
 use Rattle.patch_run.specs.Run.{Run, files_after, turn_of, run_of}
 use Rattle.patch_start.specs.Devices.{Told, HasRunCause, scratch_with}
 
@@ -256,11 +257,18 @@ pub record StaysSet (old new : SetView) : Type 0 where
   pub output : new.output ≡ old.output
   pub skipped : new.skipped ≡ old.skipped
 
--- not all is told: the tree doesn't tell its files, or the plan's scratch its bytes
-abbrev pub IsUntold : TreeView → Seen → Type 0
-IsUntold u a = (f : Files) → Told u a f → ⊥
+-- the tree doesn't tell its files
+abbrev pub IsUntold : TreeView → Type 0
+IsUntold u = (f : Files) → u.told ≡ Some f → ⊥
 
--- the verdicts of a file patch are these, or all its hunks are ignored; where not all is told, it may be refused too
+-- a file patch was refused for what is in its way: it is bad, its target isn't written, and there is one effect at most, its reject file where it has one
+pub record IsRefused (t : PlainTurn) (done : Done) : Type 0 where
+  pub bad : done.is_bad ≡ true
+  pub wrote : done.row.wrote ≡ false
+  pub few : done.effects ≤ 1
+  pub may : done.effects ≡ 1 → saves_refused t ≡ true
+
+-- the verdicts of a file patch are these, or all its hunks are ignored; where the tree doesn't tell its files, it may be refused too
 abbrev pub ArePlaced : Type 0 → ℕ → List Verdict → List Verdict → Type 0
 ArePlaced Untold count verdicts placed = (verdicts ≡ replicate count Ignored) ⊎ ((verdicts ≡ placed) ⊎ (Untold × (verdicts ≡ replicate count Nowhere)))
 

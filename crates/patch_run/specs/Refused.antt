@@ -11,7 +11,8 @@ use Rattle.say_text.specs.Messages.{refused_line}
 use Rattle.patch_task.specs.Asking.{is_bare}
 use Rattle.patch_run.specs.OnePatch.{PlainTurn, total, shown_reject, is_unrejected, rejects_text}
 
--- all its hunks are ignored, and the reject file is named, if it is put
+-- all its hunks are ignored, and the reject file is named, if it is put. They have no place, so they are rejects as others are, though they are
+-- told as ignored, as GNU patch tells them
 abbrev pub refused_said : PlainTurn → Target → Bool → List ℕ
 refused_said t w saved = if is_bare t.item.patch then [] else refused_line (total t) (if saved then Some (shown_reject w) else None)
 

@@ -74,6 +74,8 @@ unfoldable pub run_on : PlainOptions → Option Target → List Item → Run →
 run_on o output [] r = r
 run_on o output (i ∷ items) r = run_on o output items (with_item o output r i)
 
+-- from these files on. A file patch that is skipped since its file is there already has taken no file, nor has one whose file is too long; one that
+-- looks reversed or lacks its word has
 abbrev pub run_of : PlainOptions → Option Target → List Item → Files → Run
 run_of o output items files = run_on o output items (begun files)
 

@@ -1,6 +1,6 @@
 //! The receipt of a run.
 
-ghost use Rattle.std.specs.Prelude.{◌≡◌, if◌then◌else◌};
+ghost use Rattle.std.specs.Prelude.{◌≡◌, ◌||◌, if◌then◌else◌};
 
 use std::marker::Model;
 
@@ -31,8 +31,19 @@ impl Applied {
         }
     }
 
+    /// The same receipt of a run that is bad for another reason, if it is.
+    pub fn bad_if(self, is_bad: bool) -> Applied
+        ensures { result ≡ record { is_bad = self.is_bad || is_bad; done = self.done; effects = self.effects } }
+    {
+        Applied {
+            is_bad: self.is_bad || is_bad,
+            done: self.done,
+            effects: self.effects,
+        }
+    }
+
     /// 1 where a hunk failed, a file patch was skipped, also one without hunks, a file that was to be deleted wasn't, or an image
-    /// isn't put in; else 0.
+    /// isn't put in, or `bad_if` said so; else 0.
     pub fn status(&self) -> u8
         ensures { result ≡ (if self.now.is_bad then 1 else 0) }
     {

@@ -9,6 +9,7 @@ mod one_patch;
 mod plans;
 mod refusing;
 mod set;
+mod trying;
 
 pub use applied::Applied;
 pub use exit::{Exit, exit_of};

@@ -1,6 +1,6 @@
 //! One file patch.
 
-ghost use Rattle.std.specs.Prelude.{◌≡◌, ◌<◌, ◌≤◌, ◌||◌, if◌then◌else◌, [], ℕ, List, All, true, false, length, replicate, is_some, Some, IfOk, IfErr, OnOk, OnErr};
+ghost use Rattle.std.specs.Prelude.{◌≡◌, ◌<◌, ◌≤◌, ◌⊎◌, ◌||◌, if◌then◌else◌, [], ℕ, List, All, true, false, length, replicate, is_some, Some, IfOk, IfErr, OnOk, OnErr};
 ghost use Rattle.outside.specs.Files.{Files};
 ghost use Rattle.outside.specs.TreeView.{Passes};
 ghost use Rattle.outside.specs.SinkView.{SinkPasses, Writes};
@@ -15,13 +15,14 @@ ghost use Rattle.patch_run.specs.OnePatch.{Tried, ignored_said, bytes_of, lines_
 ghost use Rattle.patch_run.specs.Refused.{saves_refused, PutsRejects};
 ghost use Rattle.patch_task.specs.Outputs.{IsSession};
 ghost use Rattle.patch_start.specs.Trying.{IsBegun};
-ghost use Rattle.patch_run.specs.Doing.{Does, Stays, QuietAfter, IsDone, IsPartOf, IsDeviceFault, HasEndCause, IsOutcome, IsMadeWhole, IsOrdered, IsUntold, ArePlaced};
+ghost use Rattle.patch_run.specs.Doing.{Does, Stays, QuietAfter, IsDone, IsPartOf, IsDeviceFault, HasEndCause, IsOutcome, IsMadeWhole, IsOrdered, IsUntold, IsRefused, ArePlaced};
 ghost use Rattle.patch_task.specs.Making.{IsGone, IsTidy, TidyAfter};
 ghost use Rattle.patch_start.specs.Devices.{Told};
 ghost use Rattle.patch_task.specs.Named.{IsNamed};
 ghost use Rattle.patch_outcome.specs.TurnView.{plain_turn, IsTurn};
 
 use crate::refusing::refuse_hunks;
+use crate::trying::{refuse_tried, try_free};
 use file_patch::Target;
 use hunk_apply::Session;
 use hunk_core::{Side, Verdict};
@@ -29,7 +30,7 @@ use line_store::{LineStore, Plan};
 use outside::{Failed, Sink, Tree};
 use patch_outcome::{Turn, is_kept, make_effects, tell};
 use patch_set::Row;
-use patch_start::{Attempt, Decision, fails_first, start, try_hunks};
+use patch_start::{Attempt, Decision, fails_first, start};
 use patch_task::{Made, RunFault, chosen, is_bare, written};
 use say_text::say_ignored;
 
@@ -62,9 +63,10 @@ pub fn apply_one<P: Plan, T: Tree, O: Sink>(
     ensures rows { length verdicts.new ≡ length verdicts.old }
     ensures few { IfOk result (λ done. done.effects ≤ 5) }
 
-    // Whatever the tree tells, hunks are placed only on lines that the plan lends.
+    // Whatever the tree tells, hunks are placed only on lines that the plan lends; and a file patch that is refused is bad, and
+    // writes nothing but its rejects.
     ensures placed { IfOk result (λ done. (lines : List (List ℕ)) → (P.seen plan.new).told ≡ Some lines
-        → ArePlaced (IsUntold (T.view tree.old) (P.seen plan.old)) (length verdicts.old) verdicts.new (verdicts_over (plain_turn turn.now).options done.row.side (plain_turn turn.now).item.patch lines)) }
+        → ArePlaced (IsUntold (T.view tree.old) × IsRefused (plain_turn turn.now) done) (length verdicts.old) verdicts.new (verdicts_over (plain_turn turn.now).options done.row.side (plain_turn turn.now).item.patch lines)) }
 {
     match start(&turn.task, plan, tree, out)? {
         Decision::Skip(row) => skip(turn, row, verdicts, out),
@@ -105,7 +107,7 @@ fn unplaced(row: Row, effects: u64) -> Done
 }
 
 /// Something is in its way: no hunk has a place, and all go to the reject file.
-fn refuse<T: Tree, O: Sink>(
+pub fn refuse<T: Tree, O: Sink>(
     turn: &Turn<'_>,
     place: u32,
     side: Side,
@@ -125,10 +127,11 @@ fn refuse<T: Tree, O: Sink>(
     ensures rest { O.same_rest out.old out.new }
     ensures dry { turn.now.task.options.now.dry_run ≡ true → IsUntouched (T.view tree.old) (T.view tree.new) }
     ensures nowhere { verdicts.new ≡ replicate (length verdicts.old) Nowhere }
-    ensures done { IfOk result (λ done. (done.row ≡ record { side = side; target = Some place; wrote = false }) × (done.is_bad ≡ true)) }
+    ensures row { IfOk result (λ done. done.row ≡ record { side = side; target = Some place; wrote = false }) }
     ensures put { IfOk result (λ done. done.effects ≡ 1 → PutsRejects (T.view tree.old) (T.view tree.new) (plain_turn turn.now) (written (plain_turn turn.now) place) side verdicts.new) }
     ensures due { IfOk result (λ done. (f : Files) → (T.view tree.old).told ≡ Some f → done.effects ≡ (if saves_refused (plain_turn turn.now) then 1 else 0)) }
-    ensures few { IfOk result (λ done. done.effects ≤ 1) }
+    ensures refused { IfOk result (IsRefused (plain_turn turn.now)) }
+    ensures unsaved { IfOk result (λ done. done.effects ≡ 0 → IsUntouched (T.view tree.old) (T.view tree.new)) }
 {
     verdicts.fill(Verdict::Nowhere);
     match refuse_hunks(turn, place, side, verdicts, tree, out) {
@@ -194,11 +197,18 @@ fn try_at<P: LineStore, T: Tree, O: Sink>(
     ensures rows { length verdicts.new ≡ length verdicts.old }
     ensures few { IfOk result (λ done. done.effects ≤ 5) }
     ensures placed { IfOk result (λ done. (lines : List (List ℕ)) → (P.seen plan.new).told ≡ Some lines
-        → verdicts.new ≡ verdicts_over (plain_turn turn.now).options done.row.side (plain_turn turn.now).item.patch lines) }
+        → (verdicts.new ≡ verdicts_over (plain_turn turn.now).options done.row.side (plain_turn turn.now).item.patch lines) ⊎ ((IsUntold (T.view tree.old) × IsRefused (plain_turn turn.now) done) × (verdicts.new ≡ replicate (length verdicts.old) Nowhere))) }
 {
     let source = chosen(&turn.task, place);
     let target = written(&turn.task, place);
-    let attempt = try_hunks(&turn.task, &target.temp, side, verdicts, plan, tree)?;
+    let trial = try_free(turn, source, target, side, verdicts, plan, tree)?;
+    let attempt = trial.attempt;
+    if let Some(barrier) = trial.barrier {
+        let temp = attempt.temp;
+        return refuse_tried(
+            turn, place, side, target, barrier, temp, verdicts, tree, out,
+        );
+    }
     let session = attempt.session;
     let made = tell_and_make(turn, source, target, side, attempt, verdicts, tree, out)?;
     Ok(done_of(turn, place, side, &session, made))

@@ -132,6 +132,7 @@ fn apply_packed<C: Scratch, T: Tree, O: Sink>(
 }
 
 /// A small file is held in memory, and a large one on packed pages in the scratch, if its lines fit them.
+/// Two pages are taken before the first change, so that a large file behind small ones can't want memory for them halfway.
 fn apply_by_size<C: Scratch, T: Tree, O: Sink>(
     alloc: Global,
     options: &Options,

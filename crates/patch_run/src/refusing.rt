@@ -42,6 +42,8 @@ pub fn refuse_hunks<T: Tree, O: Sink>(
     ensures said { IfOk result (λ was. Receives (O.view out.old) (O.view out.new) (refused_said (plain_turn turn.now) (written (plain_turn turn.now) place) was)) }
     ensures put { IfOk result (λ was. was ≡ true → PutsRejects (T.view tree.old) (T.view tree.new) (plain_turn turn.now) (written (plain_turn turn.now) place) side verdicts.now) }
     ensures due { IfOk result (λ was. (f : Files) → (T.view tree.old).told ≡ Some f → was ≡ saves_refused (plain_turn turn.now)) }
+    ensures may { IfOk result (λ was. was ≡ true → saves_refused (plain_turn turn.now) ≡ true) }
+    ensures unsaved { IfOk result (λ was. was ≡ false → IsUntouched (T.view tree.old) (T.view tree.new)) }
     ensures quiet { OnOk result (IsQuiet (T.view tree.new)) }
     ensures tidy { OnOk result (IsTidy (T.view tree.old) (T.view tree.new)) }
     ensures rest { O.same_rest out.old out.new }

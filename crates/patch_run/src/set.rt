@@ -62,7 +62,7 @@ pub fn apply_set<P: Plan, T: Tree, O: Sink>(
     ensures verdicts { length set.new.verdicts ≡ length set.old.verdicts }
 
     // Whatever the tree tells, the hunks of the last file patch are placed only on lines that the plan lends.
-    ensures placed { OnOk result ((lines : List (List ℕ)) → (P.seen plan.new).told ≡ Some lines → IsPlacedLast (IsUntold (T.view tree.old) (P.seen plan.old)) (plain_options options.now) set.new set.new.verdicts lines) }
+    ensures placed { OnOk result ((lines : List (List ℕ)) → (P.seen plan.new).told ≡ Some lines → IsPlacedLast (IsUntold (T.view tree.old)) (plain_options options.now) set.new set.new.verdicts lines) }
 {
     let mut verdicts = set.take_verdicts();
     let written = set.take_marks();
@@ -104,7 +104,7 @@ fn apply_all<P: Plan, T: Tree, O: Sink>(
     ensures dry { options.now.dry_run ≡ true → IsUntouched (T.view tree.old) (T.view tree.new) }
     ensures set { StaysSet set.old set.new }
     ensures verdicts { length verdicts.new ≡ length verdicts.old }
-    ensures placed { OnOk result ((lines : List (List ℕ)) → (P.seen plan.new).told ≡ Some lines → IsPlacedLast (IsUntold (T.view tree.old) (P.seen plan.old)) (plain_options options.now) set.new verdicts.new lines) }
+    ensures placed { OnOk result ((lines : List (List ℕ)) → (P.seen plan.new).told ≡ Some lines → IsPlacedLast (IsUntold (T.view tree.old)) (plain_options options.now) set.new verdicts.new lines) }
 {
     let count = set.patches().len() as u32;
     let mut is_bad = false;
@@ -152,7 +152,7 @@ fn apply_at<P: Plan, T: Tree, O: Sink>(
     ensures rest { O.same_rest out.old out.new }
     ensures dry { options.now.dry_run ≡ true → IsUntouched (T.view tree.old) (T.view tree.new) }
     ensures few { IfOk result (λ done. done.effects ≤ 5) }
-    ensures placed { IfOk result (λ done. (p : ThePatch) (lines : List (List ℕ)) → p ≡ slice_index_or set.now.patches k p → (P.seen plan.new).told ≡ Some lines → IsPlacedOn (IsUntold (T.view tree.old) (P.seen plan.old)) (plain_options options.now) set.now.text p verdicts.new done.row lines) }
+    ensures placed { IfOk result (λ done. (p : ThePatch) (lines : List (List ℕ)) → p ≡ slice_index_or set.now.patches k p → (P.seen plan.new).told ≡ Some lines → IsPlacedOn (IsUntold (T.view tree.old)) (plain_options options.now) set.now.text p verdicts.new done.row lines) }
 {
     let patch = &set.patches()[k as usize];
     let (before, behind) = verdicts.split_at_mut(patch.first_verdict as usize);
@@ -189,7 +189,7 @@ fn apply_front<P: Plan, T: Tree, O: Sink>(
     ensures dry { turn.now.task.options.now.dry_run ≡ true → IsUntouched (T.view tree.old) (T.view tree.new) }
     ensures few { IfOk result (λ done. done.effects ≤ 5) }
     ensures placed { IfOk result (λ done. (lines : List (List ℕ)) → (P.seen plan.new).told ≡ Some lines
-        → ArePlaced (IsUntold (T.view tree.old) (P.seen plan.old)) (row_count turn.now.task.patch.now.change) (take (row_count turn.now.task.patch.now.change) verdicts.new) (verdicts_over (plain_turn turn.now).options done.row.side (plain_turn turn.now).item.patch lines)) }
+        → ArePlaced (IsUntold (T.view tree.old)) (row_count turn.now.task.patch.now.change) (take (row_count turn.now.task.patch.now.change) verdicts.new) (verdicts_over (plain_turn turn.now).options done.row.side (plain_turn turn.now).item.patch lines)) }
 {
     let count = turn.task.patch.hunks() as usize;
     let own = &mut verdicts[..count];

@@ -1,7 +1,8 @@
 -- Hunks of a file patch that makes its file, over lines that are there.
-use Rattle.std.proofs.Common.{◌≡◌, ◌∙◌, ℕ, zero, suc, List, [], ◌∷◌, length, Bool, true, false, not, ◌&&◌, ◌==◌, if◌then◌else◌, Option, Some, Result, Ok, Err, OnOk, IfOk, refl, sym, ap, arith}
+use Rattle.std.proofs.Common.{◌≡◌, ◌∙◌, ℕ, zero, suc, List, [], length, Bool, true, false, not, ◌&&◌, ◌==◌, if◌then◌else◌, Option, Some, Result, Ok, Err, OnOk, IfOk, refl, sym, ap, arith}
 use Rattle.std.specs.Prelude.{count_by, nat_lt, replicate, All}
 use Rattle.std.specs.List.{list_any}
+use Rattle.std.specs.Option.{ForSome}
 use Rattle.std.proofs.lemmas.Bool.{false≢true}
 use Rattle.std.proofs.lemmas.List.Elements.{All-replicate}
 use Rattle.std.proofs.lemmas.List.Folds.{sum_by-replicate}
@@ -73,3 +74,6 @@ pub made_session : {E : Type 0} (r : Result Session E) (vs : List Verdict) (told
     → IfOk r (λ s. (lines : List (List ℕ)) → told ≡ Some lines → IsSession s vs (text lines))
 made_session (Ok s) vs told text all same applied failed inexact empty = λ lines is. record { applied = applied; failed = failed; inexact = inexact; empty = empty lines is ∙ ap is_nothing (sym (same lines is)) }
 made_session (Err e) vs told text all same applied failed inexact empty = tt
+
+pub some_weaker : {A : Type 0} {P Q : A → Type 0} (o : Option A) → ((x : A) → P x → Q x) → ForSome o P → ForSome o Q
+some_weaker o h is = λ x at. h x (is x at)

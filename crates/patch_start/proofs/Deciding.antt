@@ -17,7 +17,7 @@ use Rattle.patch_start.specs.declared.starting.Decision.{Decision}
 use Rattle.patch_task.specs.Faults.{of_line}
 use Rattle.patch_task.specs.Turns.{PlainTurn}
 use Rattle.patch_start.specs.Start.{Start, skips, refuses, tries, said_first, skips_at, on_direction, on_prereq, prereq_said, lacks_word, lines_in, first_hunk, is_reversed, turns_round}
-use Rattle.patch_start.specs.Starting.{said_in, IsDecided, Holds, HasPlanCause, Weighs}
+use Rattle.patch_start.specs.Starting.{said_in, IsDecided, IsUnbarred, Holds, HasPlanCause, Weighs}
 use Rattle.patch_start.proofs.StartSteps.{said-first, decided-first, none_part}
 
 -- the sink failed in a text that the start begins with
@@ -30,6 +30,7 @@ weighs_stops {a = a} {b = b} {c = c} {d = d} {p = p} there x (Err e) start more 
   cause = subst (λ z. HasPlanCause z a b c d) (sym is) (w.call.cause refl);
   said = tt;
   decided = tt;
+  unbarred = tt;
   broken = λ bytes holds. subst (ReceivesPart c d) (sym (same bytes holds)) (writes_stop {S = Decision} x (Err e) (more bytes) refl w).failed;
 }
 
@@ -62,6 +63,7 @@ weighs_fails {a = a} {b = b} {c = c} there fault (Err e) start is keeps cause = 
   cause = subst (λ x. HasPlanCause x a b c c) (sym is) (line_cause fault a b c c cause);
   said = tt;
   decided = tt;
+  unbarred = tt;
   broken = λ bytes holds. none_part c (said_in (start bytes));
 }
 
@@ -88,6 +90,7 @@ weighs_after {a = a} {b = b} {k = k} {c = c} {d = d} {x = x} there (Ok v) p rest
       (subst (λ (l : List ℕ). Receives c x l) (sym (said-first p (rest bytes))) (received_both c d x p (said_in (rest bytes)) said (later.said bytes (holds_on there bytes keeps holds))));
   decided = λ bytes holds. subst (λ (s : Start). IsDecided v k (λ place. bytes) s) (same bytes holds)
       (decided-first v k (λ place. bytes) p (rest bytes) (later.decided bytes (holds_on there bytes keeps holds)));
+  unbarred = later.unbarred;
   broken = tt;
 }
 weighs_after {a = a} {b = b} {k = k} {c = c} {d = d} {x = x} there (Err e) p rest start keeps passes said later same = record {
@@ -96,19 +99,21 @@ weighs_after {a = a} {b = b} {k = k} {c = c} {d = d} {x = x} there (Err e) p res
   cause = plan_cause e a b k c d x keeps passes later.cause;
   said = tt;
   decided = tt;
+  unbarred = tt;
   broken = λ bytes holds. subst (λ (s : Start). ReceivesPart c x (said_in s)) (same bytes holds)
       (subst (λ (l : List ℕ). ReceivesPart c x l) (sym (said-first p (rest bytes))) (part_after c d x p (said_in (rest bytes)) said (later.broken bytes (holds_on there bytes keeps holds))));
 }
 
 -- the decision is made, and a text was said that its start says
-pub weighs_decides : {a b : Seen} {c d : SinkView} (there : Bool) (v : Decision) (p : List ℕ) (start is : Option (List ℕ) → Start) → Keeps a b → SinkPasses c d → Receives c d p → ((bytes : Option (List ℕ)) → said_in (is bytes) ≡ p)
+pub weighs_decides : {a b : Seen} {c d : SinkView} (there : Bool) (v : Decision) (p : List ℕ) (start is : Option (List ℕ) → Start) → IsUnbarred v → Keeps a b → SinkPasses c d → Receives c d p → ((bytes : Option (List ℕ)) → said_in (is bytes) ≡ p)
     → ((bytes : Option (List ℕ)) → Holds b there bytes → IsDecided v b (λ place. bytes) (is bytes)) → ((bytes : Option (List ℕ)) → Holds a there bytes → start bytes ≡ is bytes) → Weighs a b c d there (Ok v) start
-weighs_decides {a = a} {b = b} {c = c} {d = d} there v p start is keeps passes received says decides same = record {
+weighs_decides {a = a} {b = b} {c = c} {d = d} there v p start is unbarred keeps passes received says decides same = record {
   plan = keeps;
   sink = passes;
   cause = tt;
   said = λ bytes holds. subst (λ (s : Start). Receives c d (said_in s)) (sym (same bytes holds)) (subst (λ (l : List ℕ). Receives c d l) (sym (says bytes)) received);
   decided = λ bytes holds. subst (λ (s : Start). IsDecided v b (λ place. bytes) s) (sym (same bytes holds)) (decides bytes (holds_on there bytes keeps holds));
+  unbarred = unbarred;
   broken = tt;
 }
 

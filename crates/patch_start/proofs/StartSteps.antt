@@ -17,10 +17,10 @@ use Rattle.patch_set.specs.declared.set.Row.{Row}
 use Rattle.patch_task.specs.declared.fault.RunFault.{RunFault}
 use Rattle.patch_task.specs.declared.fault.RunFault.TheVariants.{Tree, Write, Scratch, LongLine, FileTooLong, Disagree, Memory}
 use Rattle.patch_start.specs.declared.starting.Decision.{Decision}
-use Rattle.patch_start.specs.declared.starting.Decision.TheVariants.{Skip}
+use Rattle.patch_start.specs.declared.starting.Decision.TheVariants.{Skip, Refuse, Try}
 use Rattle.patch_start.specs.Start.{Start, skips, refuses, tries, said_first}
 use Rattle.patch_start.specs.Devices.{Told, HasRunCause, scratch_with}
-use Rattle.patch_start.specs.Starting.{Starts, said_in, taken_in, IsDecided, IsBrokenOff}
+use Rattle.patch_start.specs.Starting.{Starts, said_in, taken_in, IsDecided, IsFree, IsBrokenOff}
 
 -- ---- what is said first
 
@@ -99,6 +99,18 @@ plan_none a = record { faults = omega arith; telling = refl; size = refl; needs_
 pub none_part : (c : SinkView) (q : List ℕ) → ReceivesPart c c q
 none_part c q = part_longer c c [] q (received_part c c [] (received_none c))
 
+-- ---- refusals
+
+free_after : {u v : TreeView} (y : Decision) → IsUntouched u v → IsFree v y → IsFree u y
+free_after (Skip row) same free = tt
+free_after (Refuse place side) same free = λ f told. free f (same.told ∙ told)
+free_after (Try place side) same free = tt
+
+free_untold : (u : TreeView) (y : Decision) → ((f : Files) → u.told ≡ Some f → ⊥) → IsFree u y
+free_untold u (Skip row) untold = tt
+free_untold u (Refuse place side) untold = untold
+free_untold u (Try place side) untold = tt
+
 -- the tree failed before anything was said
 pub starts_lost : {u w : TreeView} {a : Seen} {c : SinkView} {sa : ℕ → List ℕ → Option (List ℕ) → Option (List ℕ)} {bytes : Files → ℕ → Option (List ℕ)} (start : Files → Start)
     → IsUntouched u w → tree.Rises u w → Starts u w a a c c sa (Err Tree) bytes start
@@ -109,6 +121,7 @@ starts_lost {a = a} {c = c} start same rises = record {
   cause = rises;
   said = tt;
   decided = tt;
+  free = tt;
   scratch = tt;
   broken = λ f told. none_part c (said_in (start f));
 }
@@ -125,6 +138,7 @@ starts_said {a = a} {b = b} {c = c} {d = d} {e = e} {sa = sa} {bytes = bytes} {s
   cause = tt;
   said = λ f told. received_first c d e p first.received (start f) (rest.said f told);
   decided = λ f told. decided-first y b (bytes f) p (start f) (rest.decided f told);
+  free = rest.free;
   scratch = λ f told. rest.scratch f told ∙ ap (λ (o : Option (List ℕ)). scratch_with sa a.size o a.scratch) (sym (taken-first (bytes f) p (start f)));
   broken = tt;
 }
@@ -135,6 +149,7 @@ starts_said {u = u} {w = w} {a = a} {b = b} {c = c} {d = d} {e = e} {start = sta
   cause = said_cause y u w a b c d e first.call.passes rest.cause;
   said = tt;
   decided = tt;
+  free = tt;
   scratch = tt;
   broken = λ f told. broken_first c d e p first.received y (start f) (rest.broken f told);
 }
@@ -149,6 +164,7 @@ starts_after {a = a} (Ok y) same rest = record {
   cause = tt;
   said = λ f told. rest.said f (told_after a f same told);
   decided = λ f told. rest.decided f (told_after a f same told);
+  free = free_after y same rest.free;
   scratch = λ f told. rest.scratch f (told_after a f same told);
   broken = tt;
 }
@@ -159,6 +175,7 @@ starts_after {u = u} {v = v} {w = w} {a = a} {b = b} {c = c} {d = d} (Err y) sam
   cause = tree_cause y u v w a b c d same rest.cause;
   said = tt;
   decided = tt;
+  free = tt;
   scratch = tt;
   broken = λ f told. rest.broken f (told_after a f same told);
 }
@@ -173,6 +190,7 @@ starts_is {a = a} {b = b} {c = c} {d = d} {sa = sa} {bytes = bytes} (Ok y) other
   cause = tt;
   said = λ f told. subst (λ (s : Start). Receives c d (said_in s)) (same f told) (one.said f told);
   decided = λ f told. subst (λ (s : Start). IsDecided y b (bytes f) s) (same f told) (one.decided f told);
+  free = one.free;
   scratch = λ f told. subst (λ (s : Start). b.scratch ≡ scratch_with sa a.size (taken_in (bytes f) s) a.scratch) (same f told) (one.scratch f told);
   broken = tt;
 }
@@ -183,6 +201,7 @@ starts_is {c = c} {d = d} (Err y) other one same = record {
   cause = one.cause;
   said = tt;
   decided = tt;
+  free = tt;
   scratch = tt;
   broken = λ f told. subst (λ (s : Start). IsBrokenOff y c d s) (same f told) (one.broken f told);
 }
@@ -199,6 +218,7 @@ module _ {sa : ℕ → List ℕ → Option (List ℕ) → Option (List ℕ)} {by
     cause = subst (λ (z : RunFault). HasRunCause z u u a a c d) (sym is) (first.call.cause refl);
     said = tt;
     decided = tt;
+    free = tt;
     scratch = tt;
     broken = λ f told. subst (λ (z : RunFault). IsBrokenOff z c d (start f)) (sym is)
         (subst (λ (l : List ℕ). ReceivesPart c d l) (sym (begins f).is) (part_longer c d p (begins f).more first.failed));
@@ -214,6 +234,7 @@ module _ {sa : ℕ → List ℕ → Option (List ℕ) → Option (List ℕ)} {by
     cause = tt;
     said = λ f told. first.received;
     decided = λ f told. is;
+    free = subst (IsFree u) (sym is) tt;
     scratch = λ f told. refl;
     broken = tt;
   }
@@ -228,6 +249,7 @@ module _ {sa : ℕ → List ℕ → Option (List ℕ) → Option (List ℕ)} {by
     cause = rises;
     said = tt;
     decided = tt;
+    free = tt;
     scratch = tt;
     broken = λ f told. none_part c (said_in (start f));
   }
@@ -235,13 +257,14 @@ module _ {sa : ℕ → List ℕ → Option (List ℕ) → Option (List ℕ)} {by
   -- something that no tree tells of is in the way
   pub starts_barred : {u w : TreeView} {c d : SinkView} {p : List ℕ} (a : Seen) (r : Result Decision RunFault) (start : Files → Start)
       → IsUntouched u w → ((f : Files) → u.told ≡ Some f → ⊥) → Writes c d r p → IfErr r (λ e. e ≡ Write) → Starts u w a a c d sa r bytes start
-  starts_barred a (Ok y) start same untold first fault = record {
+  starts_barred {u = u} a (Ok y) start same untold first fault = record {
     untouched = same;
     plan = plan_none a;
     sink = first.call.passes;
     cause = tt;
     said = λ f told. absurd (untold f told.0);
     decided = λ f told. absurd (untold f told.0);
+    free = free_untold u y untold;
     scratch = λ f told. absurd (untold f told.0);
     broken = tt;
   }
@@ -252,6 +275,7 @@ module _ {sa : ℕ → List ℕ → Option (List ℕ) → Option (List ℕ)} {by
     cause = subst (λ (z : RunFault). HasRunCause z u w a a c d) (sym fault) (first.call.cause refl);
     said = tt;
     decided = tt;
+    free = tt;
     scratch = tt;
     broken = λ f told. absurd (untold f told.0);
   }

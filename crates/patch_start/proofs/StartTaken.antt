@@ -16,11 +16,12 @@ use Rattle.file_patch.specs.declared.derived.Target.{Target}
 use Rattle.patch_task.specs.declared.fault.RunFault.{RunFault}
 use Rattle.patch_task.specs.declared.fault.RunFault.TheVariants.{Tree, Write, Scratch, LongLine, FileTooLong, Disagree, Memory}
 use Rattle.patch_start.specs.declared.starting.Decision.{Decision}
+use Rattle.patch_start.specs.declared.starting.Decision.TheVariants.{Skip, Refuse, Try}
 use Rattle.patch_task.specs.Faults.{of_open}
 use Rattle.patch_task.specs.Turns.{PlainTurn}
 use Rattle.patch_start.specs.Start.{Start, skips, refuses, tries, said_first, lines_in, refusal_of, refused_or, lacks_word, is_reversed, first_hunk, prereq_said, on_direction, on_prereq, turns_round, skips_at}
 use Rattle.patch_start.specs.Devices.{Told, HasRunCause, scratch_with}
-use Rattle.patch_start.specs.Starting.{Starts, Takes, Weighs, said_in, taken_in, IsDecided, IsBrokenOff, IsRefusal, HasPlanCause}
+use Rattle.patch_start.specs.Starting.{Starts, Takes, Weighs, said_in, taken_in, IsDecided, IsFree, IsUnbarred, IsBrokenOff, IsRefusal, HasPlanCause}
 use Rattle.patch_start.proofs.StartSteps.{starts_is, none_part}
 
 -- a start that is about a file that was taken: it is skipped as taken, or its hunks are tried at that place
@@ -43,6 +44,11 @@ decided_about : (x : Decision) (b : Seen) (place : ℕ) (at : ℕ → Option (Li
 decided_about x b place at (skips said row t) is decided = decided
 decided_about x b place at (refuses said fault) is decided = decided
 decided_about x b place at (tries said k side) is decided = (decided.0, decided.1 ∙ ap (λ (m : ℕ). Some (lines_in (at m))) (sym is))
+
+free_unbarred : (u : TreeView) (y : Decision) → IsUnbarred y → IsFree u y
+free_unbarred u (Skip row) is = tt
+free_unbarred u (Refuse place side) is = absurd is
+free_unbarred u (Try place side) is = tt
 
 plan_then : {a b e : Seen} → KeepsPlan a b → Keeps b e → KeepsPlan a e
 plan_then before keeps = record {
@@ -88,13 +94,14 @@ module _ {sa : ℕ → List ℕ → Option (List ℕ) → Option (List ℕ)} (by
       → Takes u w a b sa (Ok tt) (λ f. bytes f place) → Weighs b e c d there r more
       → ((f : Files) → u.told ≡ Some f → there ≡ is_some (bytes f place)) → ((f : Files) → IsAbout place (bytes f place) (more (bytes f place)))
       → Starts u w a e c d sa r bytes (λ f. more (bytes f place))
-  weighed {a = a} {b = b} {e = e} {c = c} {d = d} (Ok y) took weighs is about = record {
+  weighed {u = u} {a = a} {b = b} {e = e} {c = c} {d = d} (Ok y) took weighs is about = record {
     untouched = took.untouched;
     plan = plan_then took.plan weighs.plan;
     sink = weighs.sink;
     cause = tt;
     said = λ f told. weighs.said (bytes f place) (took.lines f told, is f told.0);
     decided = λ f told. decided_about y e place (bytes f) (more (bytes f place)) (about f) (weighs.decided (bytes f place) (took.lines f told, is f told.0));
+    free = free_unbarred u y weighs.unbarred;
     scratch = λ f told. weighs.plan.scratch ∙ took.scratch f told ∙ ap (λ (o : Option (List ℕ)). scratch_with sa a.size o a.scratch) (sym (taken_about place (bytes f) (more (bytes f place)) (about f)));
     broken = tt;
   }
@@ -105,6 +112,7 @@ module _ {sa : ℕ → List ℕ → Option (List ℕ) → Option (List ℕ)} (by
     cause = plan_cause y u w a b e c d took.plan (λ f told. ap (λ (o : Option (List (List ℕ))). is_some o) (took.lines f told)) weighs.cause;
     said = tt;
     decided = tt;
+    free = tt;
     scratch = tt;
     broken = λ f told. plan_broken y b e c d (more (bytes f place)) weighs.cause (weighs.broken (bytes f place) (took.lines f told, is f told.0));
   }
@@ -128,6 +136,7 @@ module _ {sa : ℕ → List ℕ → Option (List ℕ) → Option (List ℕ)} (by
     cause = subst (λ (z : RunFault). HasRunCause z u w a b c c) (sym is) (took.cause c);
     said = tt;
     decided = tt;
+    free = tt;
     scratch = tt;
     broken = λ f told. subst (λ (z : RunFault). IsBrokenOff z c c (refused_or (refusal_of a.size (bytes f place)) (more (bytes f place)))) (sym is)
         (untaken_broken c x (refusal_of a.size (bytes f place)) (more (bytes f place)) (took.refused f told));

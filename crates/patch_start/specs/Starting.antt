@@ -37,6 +37,18 @@ IsDecided d b bytes (skips said row taken) = d ≡ Skip row
 IsDecided d b bytes (refuses said fault) = ⊥
 IsDecided d b bytes (tries said place side) = (d ≡ Try place side) × (b.told ≡ Some (lines_in (bytes place)))
 
+-- a file patch is refused only over a tree that tells no files
+abbrev pub IsFree : TreeView → Decision → Type 0
+IsFree u (Skip row) = Unit {0}
+IsFree u (Refuse place side) = (f : Files) → u.told ≡ Some f → ⊥
+IsFree u (Try place side) = Unit {0}
+
+-- it isn't refused
+abbrev pub IsUnbarred : Decision → Type 0
+IsUnbarred (Skip row) = Unit {0}
+IsUnbarred (Refuse place side) = ⊥
+IsUnbarred (Try place side) = Unit {0}
+
 -- the file isn't taken, and all that is said of it was said; or a first part was said
 abbrev pub IsBrokenOff : RunFault → SinkView → SinkView → Start → Type 0
 IsBrokenOff Tree c d s = ReceivesPart c d (said_in s)
@@ -55,6 +67,7 @@ pub record Starts (u w : TreeView) (a b : Seen) (c d : SinkView) (scratch_after 
   pub cause : IfErr result (λ e. HasRunCause e u w a b c d)
   pub said : OnOk result ((f : Files) → Told u a f → Receives c d (said_in (start f)))
   pub decided : IfOk result (λ decision. (f : Files) → Told u a f → IsDecided decision b (bytes f) (start f))
+  pub free : IfOk result (IsFree u)
   pub scratch : OnOk result ((f : Files) → Told u a f → b.scratch ≡ scratch_with scratch_after a.size (taken_in (bytes f) (start f)) a.scratch)
   pub broken : IfErr result (λ e. (f : Files) → Told u a f → IsBrokenOff e c d (start f))
 
@@ -79,6 +92,7 @@ pub record Weighs (a b : Seen) (c d : SinkView) (there : Bool) (result : Result 
   pub cause : IfErr result (λ e. HasPlanCause e a b c d)
   pub said : OnOk result ((bytes : Option (List ℕ)) → Holds a there bytes → Receives c d (said_in (start bytes)))
   pub decided : IfOk result (λ decision. (bytes : Option (List ℕ)) → Holds a there bytes → IsDecided decision b (λ place. bytes) (start bytes))
+  pub unbarred : IfOk result IsUnbarred
   pub broken : OnErr result ((bytes : Option (List ℕ)) → Holds a there bytes → ReceivesPart c d (said_in (start bytes)))
 
 -- a file that is too long, or has a line that is, is refused as such

@@ -1,7 +1,6 @@
 //! A sink for a dry run.
 
 ghost use Rattle.std.specs.Prelude.{None};
-ghost use Rattle.outside.specs.SinkView.{SinkView};
 
 use outside::{Failed, Sink};
 

@@ -16,5 +16,7 @@ mod weighing;
 mod word;
 
 pub use fill::{Attempt, try_hunks};
+pub use obstacles::{Barrier, obstacle_to_backup, obstacle_to_rejects};
+pub use refusing::say_barrier;
 pub use skipping::fails_first;
 pub use starting::{Decision, start};

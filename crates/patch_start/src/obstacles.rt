@@ -1,18 +1,23 @@
 //! What is in the way of a file patch, and whether it is about a symbolic link. No told tree answers that anything is.
 
-ghost use Rattle.std.specs.Prelude.{◌≡◌, ◌<◌, length, true, false, is_some, None, Some, IfOk, OnErr};
+ghost use Rattle.std.specs.Prelude.{◌≡◌, ◌<◌, ◌&&◌, ◌⊎◌, length, drop, true, false, is_some, is_none, None, Some, IfOk, OnErr};
+ghost use Rattle.std.specs.Option.{ForSome};
 ghost use Rattle.outside.specs.Files.{Files};
 ghost use Rattle.outside.specs.TreeView.{Rises};
 ghost use Rattle.outside.specs.Calls.{IsThere, IsUntouched};
+ghost use Rattle.patch_options.specs.declared.options.ReadOnlyFiles.TheVariants.{Refused};
 ghost use Rattle.patch_task.specs.Kinds.{is_link};
-ghost use Rattle.patch_task.specs.Turns.{bytes_of};
+ghost use Rattle.patch_task.specs.Named.{IsNamed};
+ghost use Rattle.patch_task.specs.Asking.{renames};
+ghost use Rattle.patch_task.specs.Turns.{bytes_of, shown_reject, target_at};
 ghost use Rattle.patch_task.specs.TaskView.{plain_task, IsTask};
+ghost use Rattle.patch_start.specs.Refusing.{IsFor, IsForBackup, IsBarrierToBackups, IsBarrierToTarget, IsBarrierOfKind, IsBarrierToWriting, IsBarrier, is_apart};
 
 use crate::indexed::keeps_link;
 use file_patch::Target;
 use outside::{Failed, Name, Tree};
 use patch_options::{Options, ReadOnlyFiles};
-use patch_task::{Task, chosen, is_link, renames, shown, written};
+use patch_task::{Task, chosen, is_link, renames, shown, shown_reject, written};
 
 /// What is in the way. Names are as messages show them.
 #[derive(Clone, Copy)]
@@ -65,6 +70,7 @@ pub fn obstacle<'a, T: Tree>(
     ensures untouched { IsUntouched (T.view tree.old) (T.view tree.new) }
     ensures cause { OnErr result (Rises (T.view tree.old) (T.view tree.new)) }
     ensures free { IfOk result (λ found. (f : Files) → (T.view tree.old).told ≡ Some f → found ≡ None) }
+    ensures names { IfOk result (λ found. ForSome found (IsBarrier (plain_task task.now) place link)) }
 {
     match obstacle_of_kind(task, place, link, tree) {
         Ok(None) => obstacle_to_writing(task, place, there, link, tree),
@@ -87,6 +93,7 @@ fn obstacle_to_writing<'a, T: Tree>(
     ensures untouched { IsUntouched (T.view tree.old) (T.view tree.new) }
     ensures cause { OnErr result (Rises (T.view tree.old) (T.view tree.new)) }
     ensures free { IfOk result (λ found. (f : Files) → (T.view tree.old).told ≡ Some f → found ≡ None) }
+    ensures names { IfOk result (λ found. ForSome found (IsBarrierToWriting (plain_task task.now) place link)) }
 {
     if link {
         return Ok(None);
@@ -110,6 +117,7 @@ fn is_left<T: Tree>(options: &Options, name: &Name, tree: &mut T) -> Result<bool
     ensures untouched { IsUntouched (T.view tree.old) (T.view tree.new) }
     ensures cause { OnErr result (Rises (T.view tree.old) (T.view tree.new)) }
     ensures free { IfOk result (λ yes. (f : Files) → (T.view tree.old).told ≡ Some f → yes ≡ false) }
+    ensures only { IfOk result (λ yes. yes ≡ true → options.now.read_only ≡ Refused) }
 {
     match options.read_only {
         ReadOnlyFiles::Told | ReadOnlyFiles::Replaced => Ok(false),
@@ -118,8 +126,7 @@ fn is_left<T: Tree>(options: &Options, name: &Name, tree: &mut T) -> Result<bool
 }
 
 /// The first of its names at which something stands that the file patch can't be about, or on the way to which something is no
-/// directory: the file that it reads, the one that it writes, with `-b` their backups. Reject files and what the options name to
-/// be written aren't asked about.
+/// directory: the file that it reads, the one that it writes, with `-b` their backups.
 fn obstacle_of_kind<'a, T: Tree>(
     task: &Task<'a>,
     place: u32,
@@ -131,6 +138,7 @@ fn obstacle_of_kind<'a, T: Tree>(
     ensures untouched { IsUntouched (T.view tree.old) (T.view tree.new) }
     ensures cause { OnErr result (Rises (T.view tree.old) (T.view tree.new)) }
     ensures free { IfOk result (λ found. (f : Files) → (T.view tree.old).told ≡ Some f → found ≡ None) }
+    ensures names { IfOk result (λ found. ForSome found (IsBarrierOfKind (plain_task task.now) place link)) }
 {
     let source = chosen(task, place);
     match ask_if(true, &source.name, link, tree) {
@@ -143,7 +151,7 @@ fn obstacle_of_kind<'a, T: Tree>(
     }
 }
 
-/// The same of the name that a file is to get.
+/// The same of the name that a file is to get, and of the output that the options name, which is never a link.
 fn obstacle_to_target<'a, T: Tree>(
     task: &Task<'a>,
     place: u32,
@@ -155,9 +163,11 @@ fn obstacle_to_target<'a, T: Tree>(
     ensures untouched { IsUntouched (T.view tree.old) (T.view tree.new) }
     ensures cause { OnErr result (Rises (T.view tree.old) (T.view tree.new)) }
     ensures free { IfOk result (λ found. (f : Files) → (T.view tree.old).told ≡ Some f → found ≡ None) }
+    ensures names { IfOk result (λ found. ForSome found (IsBarrierToTarget (plain_task task.now) place link)) }
 {
     let target = written(task, place);
-    match ask_if(task.patch.is_moved(), &target.name, link, tree) {
+    let link = link && task.options.output.is_none();
+    match ask_if(is_apart(task), &target.name, link, tree) {
         Ok(false) => obstacle_to_backups(task, place, tree),
         Ok(true) => Ok(Some(Barrier::Kind {
             name: shown(target),
@@ -165,6 +175,13 @@ fn obstacle_to_target<'a, T: Tree>(
         })),
         Err(failed) => Err(failed),
     }
+}
+
+/// Whether the file that is written may be another one than that which is read.
+fn is_apart(task: &Task<'_>) -> bool
+    ensures { result ≡ is_apart (plain_task task.now) }
+{
+    task.options.output.is_some() || task.patch.is_moved()
 }
 
 /// The same of the backups: of a rename the source has one too.
@@ -178,6 +195,7 @@ fn obstacle_to_backups<'a, T: Tree>(
     ensures untouched { IsUntouched (T.view tree.old) (T.view tree.new) }
     ensures cause { OnErr result (Rises (T.view tree.old) (T.view tree.new)) }
     ensures free { IfOk result (λ found. (f : Files) → (T.view tree.old).told ≡ Some f → found ≡ None) }
+    ensures names { IfOk result (λ found. ForSome found (IsBarrierToBackups (plain_task task.now) place)) }
 {
     let target = written(task, place);
     match obstacle_to_backup(target, task.options.backup, tree) {
@@ -197,13 +215,20 @@ fn obstacle_to_source_backup<'a, T: Tree>(
     ensures untouched { IsUntouched (T.view tree.old) (T.view tree.new) }
     ensures cause { OnErr result (Rises (T.view tree.old) (T.view tree.new)) }
     ensures free { IfOk result (λ found. (f : Files) → (T.view tree.old).told ≡ Some f → found ≡ None) }
+    ensures names { IfOk result (λ found. ForSome found (λ barrier. ((task.now.options.now.backup && renames (plain_task task.now).item.patch) ≡ true) × IsForBackup (target_at (plain_task task.now).item.targets place) barrier)) }
 {
-    let is_asked = task.options.backup && renames(task.patch);
-    obstacle_to_backup(chosen(task, place), is_asked, tree)
+    obstacle_to_backup(chosen(task, place), keeps_source(task), tree)
+}
+
+/// Whether the options ask for a backup of the file that a rename takes away.
+fn keeps_source(task: &Task<'_>) -> bool
+    ensures { result ≡ (task.now.options.now.backup && renames (plain_task task.now).item.patch) }
+{
+    task.options.backup && renames(task.patch)
 }
 
 /// The same of one backup, where that is asked for: it is what stands at the target's name.
-fn obstacle_to_backup<'a, T: Tree>(
+pub fn obstacle_to_backup<'a, T: Tree>(
     target: &'a Target,
     is_asked: bool,
     tree: &mut T,
@@ -211,6 +236,7 @@ fn obstacle_to_backup<'a, T: Tree>(
     ensures untouched { IsUntouched (T.view tree.old) (T.view tree.new) }
     ensures cause { OnErr result (Rises (T.view tree.old) (T.view tree.new)) }
     ensures free { IfOk result (λ found. (f : Files) → (T.view tree.old).told ≡ Some f → found ≡ None) }
+    ensures names { IfOk result (λ found. ForSome found (λ barrier. (is_asked ≡ true) × IsForBackup target.now barrier)) }
 {
     match ask_if(is_asked, &target.name, false, tree) {
         Ok(link) => obstacle_at_backup(target, is_asked, link, tree),
@@ -227,6 +253,7 @@ fn obstacle_at_backup<'a, T: Tree>(
     ensures untouched { IsUntouched (T.view tree.old) (T.view tree.new) }
     ensures cause { OnErr result (Rises (T.view tree.old) (T.view tree.new)) }
     ensures free { IfOk result (λ found. (f : Files) → (T.view tree.old).told ≡ Some f → found ≡ None) }
+    ensures names { IfOk result (λ found. ForSome found (λ barrier. (is_asked ≡ true) × IsForBackup target.now barrier)) }
 {
     match ask_if(is_asked, &target.backup, link, tree) {
         Ok(false) => Ok(None),
@@ -243,6 +270,7 @@ fn ask_if<T: Tree>(counts: bool, name: &Name, link: bool, tree: &mut T) -> Resul
     ensures untouched { IsUntouched (T.view tree.old) (T.view tree.new) }
     ensures cause { OnErr result (Rises (T.view tree.old) (T.view tree.new)) }
     ensures free { IfOk result (λ yes. (f : Files) → (T.view tree.old).told ≡ Some f → yes ≡ false) }
+    ensures asked { IfOk result (λ yes. yes ≡ true → counts ≡ true) }
 {
     if !counts {
         return Ok(false);
@@ -251,8 +279,32 @@ fn ask_if<T: Tree>(counts: bool, name: &Name, link: bool, tree: &mut T) -> Resul
     Ok(barred)
 }
 
+/// The same of the reject file, where one is asked for.
+pub fn obstacle_to_rejects<'a, T: Tree>(
+    target: &'a Target,
+    is_asked: bool,
+    tree: &mut T,
+) -> Result<Option<Barrier<'a>>, Failed>
+    requires named { IsNamed target.now }
+    ensures untouched { IsUntouched (T.view tree.old) (T.view tree.new) }
+    ensures cause { OnErr result (Rises (T.view tree.old) (T.view tree.new)) }
+    ensures free { IfOk result (λ found. (f : Files) → (T.view tree.old).told ≡ Some f → found ≡ None) }
+    ensures names { IfOk result (λ found. ForSome found (λ barrier. (is_asked ≡ true) × IsFor (shown_reject target.now) false barrier)) }
+{
+    match ask_if(is_asked, &target.reject, false, tree) {
+        Ok(false) => Ok(None),
+        Ok(true) => Ok(Some(Barrier::Kind {
+            name: shown_reject(target),
+            link: false,
+        })),
+        Err(failed) => Err(failed),
+    }
+}
+
 /// The backup's name as messages show it.
-fn shown_backup(target: &Target) -> &str {
+fn shown_backup(target: &Target) -> &str
+    ensures { (result.now ≡ drop target.now.shown_from target.now.backup) ⊎ (result.now ≡ target.now.backup) }
+{
     let name = target.backup.text();
     match name.get(target.shown_from..) {
         Some(shown) => shown,

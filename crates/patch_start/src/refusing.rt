@@ -34,7 +34,8 @@ pub fn on_barred<O: Sink>(
     })
 }
 
-fn say_barrier<O: Sink>(barrier: Barrier<'_>, out: &mut O) -> Result<(), Failed>
+/// Says what it is.
+pub fn say_barrier<O: Sink>(barrier: Barrier<'_>, out: &mut O) -> Result<(), Failed>
     ensures writes { Writes (O.view out.old) (O.view out.new) result (barrier_line barrier.entry) }
     ensures rest { O.same_rest out.old out.new }
 {

@@ -14,8 +14,8 @@ use Rattle.patch_run.specs.OnePatch.{total}
 use Rattle.patch_outcome.specs.TurnView.{plain_turn}
 use Rattle.patch_run.proofs.First.{is-first}
 use Rattle.patch_outcome.proofs.Marks.{rows-counted}
-use Rattle.patch_run.specs.Doing.{IsUntold, ArePlaced}
-use Rattle.patch_run.proofs.Refused.{untold_at, refuse_does}
+use Rattle.patch_run.specs.Doing.{IsUntold, IsRefused, ArePlaced}
+use Rattle.patch_run.proofs.Refused.{untold_at, refuse_does, placed_before}
 use Rattle.patch_run.proofs.Turning.{start_fails, lines_told, skip_does, try_does}
 use Rattle.patch_run.proofs.one_patch.apply_one.Goals as goal
 
@@ -54,7 +54,7 @@ returns-in-Skip g c = record {
   placed = (
       IfOk-weaker c.skip.result (λ (done : Done). done ≡ record { row = c.in-Skip.row; is_bad = true; effects = 0 })
       (λ (done : Done). (lines : List (List ℕ)) → (g.P.LineStore.seen c.start.new.plan).told ≡ Some lines
-      → ArePlaced (IsUntold (g.T.Tree.view c.args.tree.now) (g.P.LineStore.seen c.args.plan.now)) (length c.args.verdicts.now) c.skip.new.verdicts (verdicts_over (plain_turn c.args.turn.now).options done.row.side (plain_turn c.args.turn.now).item.patch lines))
+      → ArePlaced (IsUntold (g.T.Tree.view c.args.tree.now) × IsRefused (plain_turn c.args.turn.now) done) (length c.args.verdicts.now) c.skip.new.verdicts (verdicts_over (plain_turn c.args.turn.now).options done.row.side (plain_turn c.args.turn.now).item.patch lines))
       (λ done is lines told. inl c.skip.ensures.ignored) c.skip.ensures.done);
   few = (
       IfOk-weaker c.skip.result (λ (done : Done). done ≡ record { row = c.in-Skip.row; is_bad = true; effects = 0 }) (λ (done : Done). done.effects ≤ 5)
@@ -71,15 +71,18 @@ returns-in-Refuse g c = record {
   dry = λ dry. untouched_both (c.in_ok-row.ensures.starts (plain_turn c.args.turn.now).past (is-first c.args.turn.now c.requires.turn)).untouched (c.refuse.ensures.dry dry);
   rest = g.met.O.Sink.rest_both _ _ _ c.in_ok-row.ensures.rest c.refuse.ensures.rest;
   placed = (
-      IfOk-weaker c.refuse.result (λ (done : Done). done.effects ≤ 1)
+      IfOk-weaker c.refuse.result (IsRefused (plain_turn c.args.turn.now))
       (λ (done : Done). (lines : List (List ℕ)) → (g.P.LineStore.seen c.start.new.plan).told ≡ Some lines
-      → ArePlaced (IsUntold (g.T.Tree.view c.args.tree.now) (g.P.LineStore.seen c.args.plan.now)) (length c.args.verdicts.now) c.refuse.new.verdicts (verdicts_over (plain_turn c.args.turn.now).options done.row.side (plain_turn c.args.turn.now).item.patch lines))
-      (λ done few lines told. inr (inr (
-        untold_at (plain_turn c.args.turn.now) (g.T.Tree.view c.args.tree.now) (g.T.Tree.view c.start.new.tree) (g.P.LineStore.seen c.args.plan.now) (g.P.LineStore.seen c.start.new.plan) (g.O.Sink.view c.args.out.now) (g.O.Sink.view c.start.new.out) g.P.Plan.scratch_after
-            c.in_ok-row.field-0 (c.in_ok-row.ensures.starts (plain_turn c.args.turn.now).past (is-first c.args.turn.now c.requires.turn)) c.in-Refuse.place c.in-Refuse.side c.in-Refuse.is,
+      → ArePlaced (IsUntold (g.T.Tree.view c.args.tree.now) × IsRefused (plain_turn c.args.turn.now) done) (length c.args.verdicts.now) c.refuse.new.verdicts (verdicts_over (plain_turn c.args.turn.now).options done.row.side (plain_turn c.args.turn.now).item.patch lines))
+      (λ done refused lines told. inr (inr (
+        (
+          untold_at (plain_turn c.args.turn.now) (g.T.Tree.view c.args.tree.now) (g.T.Tree.view c.start.new.tree) (g.P.LineStore.seen c.args.plan.now) (g.P.LineStore.seen c.start.new.plan) (g.O.Sink.view c.args.out.now) (g.O.Sink.view c.start.new.out) g.P.Plan.scratch_after
+              c.in_ok-row.field-0 (c.in_ok-row.ensures.starts (plain_turn c.args.turn.now).past (is-first c.args.turn.now c.requires.turn)) c.in-Refuse.place c.in-Refuse.side c.in-Refuse.is,
+          refused,
+        ),
         c.refuse.ensures.nowhere,
-      ))) c.refuse.ensures.few);
-  few = IfOk-weaker c.refuse.result (λ (done : Done). done.effects ≤ 1) (λ (done : Done). done.effects ≤ 5) (λ done few. omega (arith, few)) c.refuse.ensures.few;
+      ))) c.refuse.ensures.refused);
+  few = IfOk-weaker c.refuse.result (IsRefused (plain_turn c.args.turn.now)) (λ (done : Done). done.effects ≤ 5) (λ done refused. omega (arith, refused.few)) c.refuse.ensures.refused;
   rows = ap (λ (l : List Verdict). length l) c.refuse.ensures.nowhere ∙ length-replicate (length c.args.verdicts.now) Nowhere;
 }
 
@@ -106,12 +109,10 @@ returns-in-Try g c = record {
   rows = c.try_at.ensures.rows;
   few = c.try_at.ensures.few;
   placed = (
-      IfOk-weaker c.try_at.result
-      (λ (done : Done). (lines : List (List ℕ)) → (g.P.LineStore.seen c.try_at.new.plan).told ≡ Some lines
-      → c.try_at.new.verdicts ≡ verdicts_over (plain_turn c.args.turn.now).options done.row.side (plain_turn c.args.turn.now).item.patch lines)
-      (λ (done : Done). (lines : List (List ℕ)) → (g.P.LineStore.seen c.try_at.new.plan).told ≡ Some lines
-      → ArePlaced (IsUntold (g.T.Tree.view c.args.tree.now) (g.P.LineStore.seen c.args.plan.now)) (length c.args.verdicts.now) c.try_at.new.verdicts (verdicts_over (plain_turn c.args.turn.now).options done.row.side (plain_turn c.args.turn.now).item.patch lines))
-      (λ done placed lines told. inr (inl (placed lines told))) c.try_at.ensures.placed);
+      let t = plain_turn c.args.turn.now in
+      IfOk-weaker c.try_at.result _ _
+      (λ (done : Done) placed lines told. placed_before t done (length c.args.verdicts.now) c.try_at.new.verdicts (verdicts_over t.options done.row.side t.item.patch lines) (c.in_ok-row.ensures.starts t.past (is-first c.args.turn.now c.requires.turn)).untouched (placed lines told))
+      c.try_at.ensures.placed);
 }
 
 pub try_at-requires-clause-rows : goal.try_at-requires-clause-rows

@@ -1,5 +1,6 @@
 use Rattle.std.proofs.Common.{Bool, if◌then◌else◌, ◌∙◌, ap}
-use Rattle.patch_run.proofs.Refused.{one_put, few_put}
+use Rattle.patch_set.specs.declared.set.Row.{Row}
+use Rattle.patch_run.proofs.Refused.{one_put, none_put, few_put}
 use Rattle.patch_run.proofs.one_patch.refuse.Goals as goal
 
 pub returns-in-Ok : goal.returns-in-Ok
@@ -15,10 +16,16 @@ returns-in-Ok g c =
       rest = c.refuse_hunks.ensures.rest;
       dry = c.refuse_hunks.ensures.dry;
       nowhere = c.fill.ensures.after (λ y is. is);
-      done = (done.ensures.row, done.ensures.bad);
+      row = done.ensures.row;
       put = λ one. c.in-Ok.ensures.put (one_put saved done.result.effects done.ensures.effects one);
       due = λ f told. done.ensures.effects ∙ ap (λ (b : Bool). if b then 1 else 0) (c.in-Ok.ensures.due f told);
-      few = few_put saved done.result.effects done.ensures.effects;
+      refused = record {
+        bad = done.ensures.bad;
+        wrote = ap (λ (r : Row). r.wrote) done.ensures.row;
+        few = few_put saved done.result.effects done.ensures.effects;
+        may = λ one. c.in-Ok.ensures.may (one_put saved done.result.effects done.ensures.effects one);
+      };
+      unsaved = λ none. c.in-Ok.ensures.unsaved (none_put saved done.result.effects done.ensures.effects none);
     }
 
 pub returns-in-Err : goal.returns-in-Err
@@ -31,10 +38,11 @@ returns-in-Err g c = record {
   rest = c.refuse_hunks.ensures.rest;
   dry = c.refuse_hunks.ensures.dry;
   nowhere = c.fill.ensures.after (λ y is. is);
-  done = tt;
+  row = tt;
   put = tt;
   due = tt;
-  few = tt;
+  refused = tt;
+  unsaved = tt;
 }
 
 pub refuse_hunks-requires-clause-turn : goal.refuse_hunks-requires-clause-turn

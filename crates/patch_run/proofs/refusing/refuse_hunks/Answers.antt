@@ -1,9 +1,9 @@
-use Rattle.std.proofs.Common.{◌≡◌, Bool, true, Some, IfOk, ◌∙◌, subst}
+use Rattle.std.proofs.Common.{◌≡◌, Bool, true, false, Some, IfOk, sym, ◌∙◌, subst}
 use Rattle.std.proofs.lemmas.Result.{IfOk-weaker, IfErr-weaker, on_ok_weaker}
 use Rattle.outside.specs.Files.{Files}
 use Rattle.outside.specs.TreeView.{passes_both}
 use Rattle.outside.specs.SinkView.{sink_passes_none, Receives}
-use Rattle.outside.specs.Calls.{untouched_both}
+use Rattle.outside.specs.Calls.{IsUntouched, untouched_both}
 use Rattle.outside.proofs.Views.{untouched_quiet}
 use Rattle.file_patch.specs.declared.derived.Target.{Target}
 use Rattle.patch_task.proofs.Tidy.{tidy_both, untouched_tidy}
@@ -34,6 +34,8 @@ returns-in-Ok g c =
           (IfOk-weaker r (λ (was : Bool). was ≡ true → PutsRejects v w t c.written-target.result.now c.args.side c.args.verdicts.now) (λ (was : Bool). was ≡ true → PutsRejects u w t c.written-target.result.now c.args.side c.args.verdicts.now)
           (λ was puts yes f told. puts yes f (same.told ∙ told)) (put_was _ saved r saves.was saves.put)));
       due = IfOk-weaker r (λ (was : Bool). was ≡ saved) (λ (was : Bool). (f : Files) → u.told ≡ Some f → was ≡ saves_refused t) (λ was is f told. is ∙ c.in-Ok.ensures.due f told) saves.was;
+      may = IfOk-weaker r (λ (was : Bool). was ≡ saved) (λ (was : Bool). was ≡ true → saves_refused t ≡ true) (λ was is put. c.in-Ok.ensures.may (sym is ∙ put)) saves.was;
+      unsaved = IfOk-weaker r (λ (was : Bool). was ≡ saved) (λ (was : Bool). was ≡ false → IsUntouched u w) (λ was is none. untouched_both same (saves.unsaved (sym is ∙ none))) saves.was;
       quiet = saves.quiet;
       tidy = on_ok_weaker r (λ tidy. tidy_both u v w same.passes (untouched_tidy same) tidy) saves.tidy;
       rest = saves.rest;
@@ -48,6 +50,8 @@ returns-in-Err g c = record {
   said = tt;
   put = tt;
   due = tt;
+  may = tt;
+  unsaved = tt;
   quiet = tt;
   tidy = tt;
   rest = g.met.O.Sink.rest_none _;

@@ -36,7 +36,7 @@ loop-k-init g c =
       at = λ f told. at_none u a d g.P.Plan.scratch_after o c.args.set.now c.args.verdicts.now f c.requires.quiet told;
       written = subst (λ (past : List Mark). AreWritten c.args.written past) (sym (marks-none o c.args.set.now c.args.verdicts.now)) c.requires.written;
       room = c.requires.room;
-      placed = λ lines told. placed_none (IsUntold u a) o c.args.set.now c.args.verdicts.now lines;
+      placed = λ lines told. placed_none (IsUntold u) o c.args.set.now c.args.verdicts.now lines;
     }
 
 pub apply_at-requires-clause-ready : goal.apply_at-requires-clause-ready
@@ -100,9 +100,9 @@ loop-k-preserved g c =
           (c.with_row-written.ensures.written o refl (marks o v k vs) p.0 (rows_in ws p.0) p.1 inv.written)));
       room = subst (λ (s : SetView). ForSome c.with_row-written.result (HaveRoom s.patches s.output)) noted c.with_row-written.ensures.room;
       placed = λ lines told.
-          subst (λ (s : SetView). IsPlacedTo (IsUntold u a) o s (k + 1) ws lines) noted
-          (placed_next (IsUntold u a) o v k p.0 done.row ws lines lt p.1 inv.rows
-          (placed_earlier (IsUntold x b) (IsUntold u a) (row_count p.0.change) (rows_in ws p.0) (verdicts_over o done.row.side (patch_of v.text p.0) lines) (untold_earlier inv.goes) (c.in_ok-done.ensures.placed p.0 lines p.1 told)));
+          subst (λ (s : SetView). IsPlacedTo (IsUntold u) o s (k + 1) ws lines) noted
+          (placed_next (IsUntold u) o v k p.0 done.row ws lines lt p.1 inv.rows
+          (placed_earlier (IsUntold x) (IsUntold u) (row_count p.0.change) (rows_in ws p.0) (verdicts_over o done.row.side (patch_of v.text p.0) lines) (untold_earlier inv.goes) (c.in_ok-done.ensures.placed p.0 lines p.1 told)));
     }
 
 pub returns-in_err-done : goal.returns-in_err-done
@@ -206,5 +206,5 @@ returns g c = record {
       let inv = c.loop-k.invariant in
       let same : length c.loop-k.set.patches ≡ length c.args.set.now.patches = ap (λ (l : List FilePatch). length l) inv.same.patches in
       let all : c.loop-k.k ≡ length c.loop-k.set.patches = omega (arith, c.loop-k-test.false, same, ap (λ (l : List FilePatch). length l) c.patches.ensures.patches) in
-      placed_all (IsUntold (g.T.Tree.view c.args.tree.now) (g.P.LineStore.seen c.args.plan.now)) (plain_options c.args.options.now) c.loop-k.set c.loop-k.k c.loop-k.verdicts lines all inv.rows (inv.placed lines told);
+      placed_all (IsUntold (g.T.Tree.view c.args.tree.now)) (plain_options c.args.options.now) c.loop-k.set c.loop-k.k c.loop-k.verdicts lines all inv.rows (inv.placed lines told);
 }

@@ -32,5 +32,5 @@ invariant-loop-k g l =
       at : (f : Files) → Told u a f → IsAt u v a b c d g.P.Plan.scratch_after o l.set l.k l.verdicts l.is_bad l.effects (run_to o l.set l.k f);
       written : AreWritten l.written (marks o l.set l.k l.verdicts);
       room : ForSome l.written (HaveRoom l.set.patches l.set.output);
-      placed : (lines : List (List ℕ)) → b.told ≡ Some lines → IsPlacedTo (IsUntold u a) o l.set l.k l.verdicts lines;
+      placed : (lines : List (List ℕ)) → b.told ≡ Some lines → IsPlacedTo (IsUntold u) o l.set l.k l.verdicts lines;
     }

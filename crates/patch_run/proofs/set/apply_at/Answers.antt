@@ -96,7 +96,7 @@ returns g c = record {
       let front = c.split_at_mut-before.result.0.now in
       let rest = c.apply_front.new.verdicts in
       let seen = g.P.LineStore.seen c.apply_front.new.plan in
-      let Untold = IsUntold (g.T.Tree.view c.args.tree.now) (g.P.LineStore.seen c.args.plan.now) in
+      let Untold = IsUntold (g.T.Tree.view c.args.tree.now) in
       let at : q ≡ get_or v.patches k q = c.index-patches-k.is ∙ ap (λ (l : List FilePatch). get_or l k q) c.patches.ensures.patches in
       IfOk-weaker c.apply_front.result
       (λ done. (lines : List (List ℕ)) → seen.told ≡ Some lines → ArePlaced Untold (row_count q.change) (take (row_count q.change) rest) (verdicts_over o done.row.side (patch_of v.text q) lines))

@@ -1,4 +1,5 @@
 use Rattle.std.proofs.Common.{◌≡◌, ℕ, List, [], length, take, drop, Some, IfOk, sym, ◌∙◌, ap, subst, arith, length-append, length-drop, ◌≤◌}
+use Rattle.std.proofs.lemmas.Result.{IfOk-weaker}
 use Rattle.std.proofs.lemmas.List.{take_at, drop_at, length-take, length-take-le}
 use Rattle.hunk_core.specs.declared.Verdict.{Verdict}
 use Rattle.patch_task.specs.Outputs.{verdicts_over}
@@ -7,6 +8,7 @@ use Rattle.patch_run.specs.Doing.{Does, IsUntold, ArePlaced}
 use Rattle.patch_run.specs.OnePatch.{ending}
 use Rattle.patch_outcome.specs.TurnView.{plain_turn}
 use Rattle.patch_outcome.proofs.Marks.{rows-counted}
+use Rattle.patch_run.proofs.RunEnds.{placed_earlier}
 use Rattle.patch_run.proofs.set.apply_front.Goals as goal
 
 pub returns : goal.returns
@@ -40,9 +42,10 @@ returns g c = record {
       let ws = c.apply_one.new.verdicts in
       let own : length (take count c.args.verdicts.now) ≡ n = omega (arith, length-take count c.args.verdicts.now, is, c.requires.rows) in
       let placed : List Verdict → ℕ → Type 0 = λ l m. IfOk c.apply_one.result (λ done. (lines : List (List ℕ)) → (g.P.LineStore.seen c.apply_one.new.plan).told ≡ Some lines
-      → ArePlaced (IsUntold (g.T.Tree.view c.args.tree.now) (g.P.LineStore.seen c.args.plan.now)) m l (verdicts_over (plain_turn c.args.turn.now).options done.row.side (plain_turn c.args.turn.now).item.patch lines)) in
+      → ArePlaced (IsUntold (g.T.Tree.view c.args.tree.now)) m l (verdicts_over (plain_turn c.args.turn.now).options done.row.side (plain_turn c.args.turn.now).item.patch lines)) in
       subst (λ (l : List Verdict). placed l n) (sym (take_at ws (drop count c.args.verdicts.now) n (c.apply_one.ensures.rows ∙ own)))
-      (subst (λ (m : ℕ). placed ws m) own c.apply_one.ensures.placed));
+      (subst (λ (m : ℕ). placed ws m) own
+      (IfOk-weaker c.apply_one.result _ _ (λ done is lines told. placed_earlier _ (IsUntold (g.T.Tree.view c.args.tree.now)) _ _ _ (λ both. both.0) (is lines told)) c.apply_one.ensures.placed)));
 }
 
 pub apply_one-requires-clause-rows : goal.apply_one-requires-clause-rows

@@ -90,7 +90,7 @@ returns g c = record {
       });
   placed = (
       let o = plain_options c.args.options.now in
-      let Untold = IsUntold (g.T.Tree.view c.args.tree.now) (g.P.LineStore.seen c.args.plan.now) in
+      let Untold = IsUntold (g.T.Tree.view c.args.tree.now) in
       let new = c.apply_all-applied.new in
       let vec = c.take_verdicts-verdicts.result in
       let same : take vec.len (new.verdicts ++ drop (length new.verdicts) vec.items) ≡ new.verdicts = take_at new.verdicts (drop (length new.verdicts) vec.items) vec.len (c.apply_all-applied.ensures.verdicts ∙ ap (λ (l : List Verdict). length l) c.as_mut_slice.ensures.value ∙ sym vec.ok.0) in

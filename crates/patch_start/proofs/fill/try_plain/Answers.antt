@@ -1,4 +1,4 @@
-use Rattle.std.proofs.Common.{◌≡◌, ◌∙◌, ℕ, List, length, Some, true, false, sym, ap, subst}
+use Rattle.std.proofs.Common.{◌∙◌, ℕ, List, length, sym, ap, subst}
 use Rattle.std.specs.Prelude.{replicate, All}
 use Rattle.std.proofs.lemmas.List.{length-replicate}
 use Rattle.std.proofs.lemmas.Result.{IfOk-weaker, on_ok_weaker}
@@ -9,7 +9,7 @@ use Rattle.file_patch.specs.PlainPatch.{change_of, row_count}
 use Rattle.hunk_apply.specs.Change.{change_output, change_verdicts}
 use Rattle.hunk_apply.specs.Session.{IsTried}
 use Rattle.patch_set.proofs.Named.{rows-counted}
-use Rattle.patch_task.specs.Outputs.{is_barred, text_of, IsSession}
+use Rattle.patch_task.specs.Outputs.{text_of, IsSession}
 use Rattle.patch_task.specs.TaskView.{plain_task}
 use Rattle.patch_start.proofs.Barring.{verdicts_barred, verdicts_free, text_barred, text_free, all_tried, on_ok, made_session}
 use Rattle.patch_start.proofs.fill.try_plain.Goals as goal

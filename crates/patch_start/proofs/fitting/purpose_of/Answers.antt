@@ -1,4 +1,4 @@
-use Rattle.std.proofs.Common.{◌≡◌, Bool, true, false, if◌then◌else◌, ◌∙◌, ap}
+use Rattle.std.proofs.Common.{Bool, true, false, if◌then◌else◌, ◌∙◌, ap}
 use Rattle.hunk_core.specs.declared.Side.{Side}
 use Rattle.hunk_core.specs.Turned.{other_side}
 use Rattle.file_patch.specs.Absent.{creates}
@@ -7,7 +7,6 @@ use Rattle.patch_task.specs.Asking.{is_bare, moves_at}
 use Rattle.patch_task.specs.TaskView.{plain_task}
 use Rattle.patch_start.specs.declared.fitting.Purpose.{Purpose}
 use Rattle.patch_start.specs.declared.fitting.Purpose.TheVariants.{Makes, MakesEmpty, Clears, RemovesEmpty, Changes}
-use Rattle.patch_start.specs.Fitting.{purpose_of}
 use Rattle.patch_start.proofs.fitting.purpose_of.Goals as goal
 
 abbrev making : Bool → Purpose

@@ -1,4 +1,4 @@
-use Rattle.std.proofs.Common.{◌≡◌, Bool, if◌then◌else◌, ◌∙◌, ap}
+use Rattle.std.proofs.Common.{Bool, if◌then◌else◌, ◌∙◌, ap}
 use Rattle.std.proofs.lemmas.Result.{IfOk-weaker}
 use Rattle.std.specs.FinMap.{get}
 use Rattle.file_patch.specs.declared.derived.Target.{Target}

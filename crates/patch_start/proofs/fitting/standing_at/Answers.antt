@@ -1,4 +1,4 @@
-use Rattle.std.proofs.Common.{◌∙◌, ap, Option, ℕ}
+use Rattle.std.proofs.Common.{◌∙◌, ap}
 use Rattle.patch_start.specs.Fitting.{standing_by}
 use Rattle.patch_start.proofs.fitting.standing_at.Goals as goal
 

@@ -1,10 +1,10 @@
-use Rattle.std.proofs.Common.{◌≡◌, Bool, true, false, if◌then◌else◌, Option, None, Some, sym, ◌∙◌, ap, refl}
+use Rattle.std.proofs.Common.{◌≡◌, false, None, sym, ◌∙◌, ap, refl}
 use Rattle.std.proofs.lemmas.Bool.{false≢true}
 use Rattle.say_text.specs.declared.standing.Standing.{Standing}
 use Rattle.patch_task.specs.TaskView.{plain_task}
 use Rattle.patch_start.specs.declared.fitting.Purpose.{Purpose}
 use Rattle.patch_start.specs.declared.fitting.Purpose.TheVariants.{Makes, MakesEmpty, Clears, RemovesEmpty, Changes}
-use Rattle.patch_start.specs.Fitting.{purpose_of, misfit, is_asked}
+use Rattle.patch_start.specs.Fitting.{misfit, is_asked}
 use Rattle.patch_start.specs.Start.{standing}
 use Rattle.patch_start.proofs.fitting.unfit.Goals as goal
 

@@ -1,4 +1,4 @@
-use Rattle.std.proofs.Common.{List, ℕ, Option, sym, ap, ◌∙◌}
+use Rattle.std.proofs.Common.{sym, ap, ◌∙◌}
 use Rattle.outside.proofs.Writing.{writes_is}
 use Rattle.patch_options.specs.PlainJob.{plain_options}
 use Rattle.say_text.specs.Messages.{image_line}

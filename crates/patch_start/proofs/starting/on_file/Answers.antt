@@ -1,4 +1,4 @@
-use Rattle.std.proofs.Common.{◌≡◌, None, Some, sym, ◌∙◌, ap}
+use Rattle.std.proofs.Common.{sym, ◌∙◌, ap}
 use Rattle.patch_task.specs.Turns.{bytes_of}
 use Rattle.patch_start.specs.Start.{on_fitting, on_file}
 use Rattle.patch_task.specs.TaskView.{plain_task}

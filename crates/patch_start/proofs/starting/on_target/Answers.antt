@@ -3,7 +3,7 @@ use Rattle.std.proofs.lemmas.Result.{IfOk-weaker}
 use Rattle.name_choice.specs.Choice.{side_of}
 use Rattle.patch_task.specs.TaskView.{plain_task}
 use Rattle.patch_task.specs.Kinds.{is_meant_subject}
-use Rattle.patch_start.specs.Start.{Start, on_target, on_meant, unmeant_said, skips_at}
+use Rattle.patch_start.specs.Start.{on_target, on_meant, unmeant_said, skips_at}
 use Rattle.patch_start.specs.Starting.{IsWithin}
 use Rattle.patch_start.proofs.StartSteps.{starts_is, starts_skips}
 use Rattle.patch_start.proofs.starting.on_target.Goals as goal

@@ -10,7 +10,7 @@ use Rattle.patch_task.specs.TaskView.{plain_task}
 use Rattle.patch_start.proofs.Deciding.{weighs_fails, weighs_stops, weighs_decides, direction-said, direction-kept, direction-over}
 use Rattle.outside.proofs.Exits.{if_ok_none}
 use Rattle.patch_start.specs.declared.starting.Decision.TheVariants.{Try}
-use Rattle.patch_start.specs.Starting.{IsWithin}
+use Rattle.patch_start.specs.Starting.{IsUnbarred, IsWithin}
 use Rattle.patch_start.proofs.weighing.direct.Goals as goal
 
 pub returns-in_err-is_reversed : goal.returns-in_err-is_reversed
@@ -50,7 +50,7 @@ returns-then-not-branch g c = record {
   weighs = (
       let t = plain_task c.args.task.now in
       weighs_decides c.args.there (Try c.args.place c.args.side) [] (λ bytes. on_direction t c.args.place bytes c.args.was_turned c.args.side) (λ bytes. tries [] c.args.place c.args.side)
-      c.in_ok-is_reversed.ensures.keeps (sink_passes_none (g.O.Sink.view c.args.out.now)) (received_none (g.O.Sink.view c.args.out.now)) (λ bytes. refl) (λ bytes holds. (refl, holds.0))
+      tt c.in_ok-is_reversed.ensures.keeps (sink_passes_none (g.O.Sink.view c.args.out.now)) (received_none (g.O.Sink.view c.args.out.now)) (λ bytes. refl) (λ bytes holds. (refl, holds.0))
       (λ bytes holds. direction-kept t c.args.place bytes c.args.was_turned c.args.side (sym (c.in_ok-is_reversed.ensures.value (lines_in bytes) holds.0) ∙ c.if-not-branch.true)));
 }
 
@@ -63,7 +63,7 @@ returns-then-is_turned g c = record {
       let options = plain_options c.args.task.now.options.now in
       weighs_decides c.args.there (Try c.args.place c.other-side.result) (silenced options (reversed_line c.turns_round-is_turned.result)) (λ bytes. on_direction t c.args.place bytes c.args.was_turned c.args.side)
       (λ bytes. tries (silenced options (reversed_line true)) c.args.place (other_side c.args.side))
-      c.in_ok-is_reversed.ensures.keeps c.in_ok-say_reversed.ensures.writes.call.passes c.in_ok-say_reversed.ensures.writes.received (λ bytes. ap (λ turned. silenced options (reversed_line turned)) (sym c.if-is_turned.true))
+      tt c.in_ok-is_reversed.ensures.keeps c.in_ok-say_reversed.ensures.writes.call.passes c.in_ok-say_reversed.ensures.writes.received (λ bytes. ap (λ turned. silenced options (reversed_line turned)) (sym c.if-is_turned.true))
       (λ bytes holds. (ap (Try c.args.place) c.other-side.ensures, holds.0))
       (λ bytes holds. direction-over t c.args.place bytes c.args.was_turned c.args.side true (sym c.turns_round-is_turned.ensures ∙ c.if-is_turned.true) c.if-task.false c.if-was_turned.false (sym (c.in_ok-is_reversed.ensures.value (lines_in bytes) holds.0) ∙ c.if-not-branch.false)));
 }
@@ -76,7 +76,7 @@ returns-else-is_turned g c = record {
       let options = plain_options c.args.task.now.options.now in
       weighs_decides c.args.there c.skip_at.result (silenced options (reversed_line c.turns_round-is_turned.result)) (λ bytes. on_direction t c.args.place bytes c.args.was_turned c.args.side)
       (λ bytes. skips_at (silenced options (reversed_line false)) c.args.place c.args.side bytes)
-      c.in_ok-is_reversed.ensures.keeps c.in_ok-say_reversed.ensures.writes.call.passes c.in_ok-say_reversed.ensures.writes.received (λ bytes. ap (λ turned. silenced options (reversed_line turned)) (sym c.if-is_turned.false))
+      (subst IsUnbarred (sym c.skip_at.ensures) tt) c.in_ok-is_reversed.ensures.keeps c.in_ok-say_reversed.ensures.writes.call.passes c.in_ok-say_reversed.ensures.writes.received (λ bytes. ap (λ turned. silenced options (reversed_line turned)) (sym c.if-is_turned.false))
       (λ bytes holds. c.skip_at.ensures)
       (λ bytes holds. direction-over t c.args.place bytes c.args.was_turned c.args.side false (sym c.turns_round-is_turned.ensures ∙ c.if-is_turned.false) c.if-task.false c.if-was_turned.false (sym (c.in_ok-is_reversed.ensures.value (lines_in bytes) holds.0) ∙ c.if-not-branch.false)));
   within = subst (IsWithin (length c.args.task.now.patch.now.targets.items)) (sym c.skip_at.ensures) tt;

@@ -7,7 +7,7 @@ use Rattle.patch_start.specs.Start.{skips_at, on_direction, on_prereq, prereq_sa
 use Rattle.patch_task.specs.TaskView.{plain_task}
 use Rattle.patch_start.proofs.Deciding.{weighs_fails, weighs_stops, weighs_after, weighs_decides, prereq-stops, prereq-suits, prereq-warns, prereq-speaks, behind_prereq}
 use Rattle.outside.proofs.Exits.{if_ok_none}
-use Rattle.patch_start.specs.Starting.{IsWithin}
+use Rattle.patch_start.specs.Starting.{IsUnbarred, IsWithin}
 use Rattle.patch_start.proofs.weighing.weigh.Goals as goal
 
 pub returns-then-not-branch : goal.returns-then-not-branch
@@ -39,7 +39,7 @@ returns-else-task g c = record {
   weighs = (
       let t = plain_task c.args.task.now in
       weighs_decides c.args.there c.skip_at.result (prereq_said t) (λ bytes. on_prereq t c.args.place bytes c.args.was_turned c.args.side) (λ bytes. skips_at (prereq_said t) c.args.place c.args.side bytes)
-      c.in_ok-lacks_word.ensures.keeps c.in_ok-say_prereq.ensures.writes.call.passes
+      (subst IsUnbarred (sym c.skip_at.ensures) tt) c.in_ok-lacks_word.ensures.keeps c.in_ok-say_prereq.ensures.writes.call.passes
       (subst (λ (word : List ℕ). Receives (g.O.Sink.view c.args.out.now) (g.O.Sink.view c.say_prereq.new.out) (silenced (plain_options c.args.task.now.options.now) (prereq_line c.args.task.now.options.now.force word))) c.prereq_word.ensures c.in_ok-say_prereq.ensures.writes.received)
       (λ bytes. refl) (λ bytes holds. c.skip_at.ensures)
       (λ bytes holds. prereq-stops t c.args.place bytes c.args.was_turned c.args.side (sym (c.in_ok-lacks_word.ensures.value bytes holds) ∙ c.if-not-branch.false) c.if-task.false));
