@@ -3,4 +3,6 @@ mod Bared
 mod Finding
 mod CleanedLines
 mod LineForLine
+mod Indenting
+mod IndentLines
 pub mod LongTexts

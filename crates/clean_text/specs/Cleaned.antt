@@ -22,6 +22,7 @@ telling_line Normal opening = opening - 1
 telling_line Ed opening = opening - 1
 
 -- the file patch with this header comes with carriage returns: the last line of its header has one
+-- Range lines don't count: git writes a line of a file with such ends behind `@@`.
 abbrev pub comes_with_returns : List Bool → Header → Bool
 comes_with_returns returns h = unwrap_or (slice_get returns (telling_line h.form h.opening)) false
 

@@ -1,4 +1,5 @@
 pub mod Cleaned
 pub mod Bare
 pub mod Cleaning
+pub mod Indents
 pub mod Reading

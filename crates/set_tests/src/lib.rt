@@ -4,6 +4,8 @@
 #[cfg(test)]
 mod clean;
 #[cfg(test)]
+mod indents;
+#[cfg(test)]
 mod names;
 #[cfg(test)]
 mod numbers;
