@@ -32,9 +32,11 @@ use Rattle.patch_run.specs.Outcome.{carried_out}
 use Rattle.patch_run.proofs.Ready.{read_names}
 use Rattle.backup_numbers.specs.Numbering.{asks_numbers}
 use Rattle.patch_cli.specs.Numbered.{IsMade, numbered_run}
-use Rattle.patch_cli.proofs.Named.{names-made, long-made}
+use Rattle.patch_cli.specs.Damaged.{has_damaged}
+use Rattle.patch_cli.proofs.Named.{names-made, long-made, damaged-made}
 use Rattle.patch_cli.proofs.Numbered.{run-made}
-use Rattle.patch_cli.specs.Command.{Reads, on_patches, on_refusal, on_input, on_job}
+use Rattle.patch_cli.specs.Returns.{strips_returns, first_said}
+use Rattle.patch_cli.specs.Command.{Reads, bad_where, behind, on_patches, on_refusal, on_input, on_job}
 use Rattle.patch_cli.specs.Worlds.{World, world, TellsFiles, TellsLeft, TellsInput, is_standard}
 use Rattle.patch_run.specs.Finishes.{CanApply}
 use Rattle.run_answers.specs.Moments.{Opens}
@@ -54,14 +56,18 @@ tells_input (Err fault) u f left files rest = tt
 
 -- a text that isn't refused is carried out as the set that is read from it
 pub carried-match : (o : PlainOptions) (given : List ℕ) (before v : SetView) → IsRead o given before → (f : Files) → IsMade (asks_numbers o) o.numbers (Some f) before v → (left : List ℕ)
-    → Reads o f left before.text (plain_patches before) → on_job (Ok (patch o)) f left ≡ carried_out (length v.patches) (set_run o v f)
+    → (reads : Reads o f left before.text (plain_patches before)) → on_job (Ok (patch o)) f left ≡ behind (first_said o (strips_returns o reads.bytes)) (carried_out (length v.patches) (bad_where (has_damaged v.ways v.text) (set_run o v f)))
 carried-match o given before v read f made left reads =
+    let first : List ℕ = first_said o (strips_returns o reads.bytes) in
     ap (λ (x : Result (List ℕ) InputFault). on_input o x f) reads.given
-    ∙ ap (λ x. on_refusal o x (clean_of o reads.bytes) f) reads.free
-    ∙ ap (λ (t : List ℕ). on_patches o t (patches_of (ways_of o) t) f) (sym reads.whole)
-    ∙ ap (λ (ps : Result (List PlainPatch) Fault). on_patches o before.text ps f) reads.patches
-    ∙ ap (λ (n : ℕ). carried_out n (numbered_run o before.text (plain_patches before) f)) (length-map before.patches (patch_of before.text) ∙ long-made (asks_numbers o) o.numbers (Some f) before v made)
-    ∙ ap (λ (r : Run). carried_out (length v.patches) r) (run-made o given before v read f made)
+    ∙ ap (λ x. on_refusal o first x (clean_of o reads.bytes) f) reads.free
+    ∙ ap (λ (t : List ℕ). on_patches o first t (patches_of (ways_of o) t) f) (sym reads.whole)
+    ∙ ap (λ (ps : Result (List PlainPatch) Fault). on_patches o first before.text ps f) reads.patches
+    ∙ ap (λ (n : ℕ). behind first (carried_out n (bad_where (has_damaged (ways_of o) before.text) (numbered_run o before.text (plain_patches before) f))))
+    (length-map before.patches (patch_of before.text) ∙ long-made (asks_numbers o) o.numbers (Some f) before v made)
+    ∙ ap (λ (r : Run). behind first (carried_out (length v.patches) (bad_where (has_damaged (ways_of o) before.text) r))) (run-made o given before v read f made)
+    ∙ ap (λ (b : Bool). behind first (carried_out (length v.patches) (bad_where b (set_run o v f))))
+    (ap (λ w. has_damaged w before.text) (sym read.ways) ∙ damaged-made (asks_numbers o) o.numbers (Some f) before v made)
 
 can_apply : (o : PlainOptions) (text : List ℕ) (told : Option Files) (before v : SetView) → IsLawful o → IsRead o text before → IsMade (asks_numbers o) o.numbers told before v → IsFresh v → CanApply o v
 can_apply o text told before v lawful read made fresh = record {
@@ -72,14 +78,15 @@ can_apply o text told before v lawful read made fresh = record {
 
 -- the patch text and the set that is read from it are what the options ask for
 pub asked_so : (o : PlainOptions) (bytes : List ℕ) (before v : SetView) (t : TreeView) (s : SourceView) → IsLawful o → input.IsAnswer (Ok bytes) o.input o.dir t s
-    → IsRead o (clean_of o bytes) before → IsMade (asks_numbers o) o.numbers t.told before v → IsFresh v → refusal o (clean_of o bytes) ≡ None → (a : ScratchView) (c : SinkView) → IsAsked o v (world t a s c)
-asked_so o bytes before v t s lawful answer read made fresh free a c = record {
+    → IsRead o (clean_of o bytes) before → IsMade (asks_numbers o) o.numbers t.told before v → IsFresh v → refusal o (clean_of o bytes) ≡ None → (strips : Bool) → strips ≡ strips_returns o bytes → (a : ScratchView) (c : SinkView) → IsAsked o strips v (world t a s c)
+asked_so o bytes before v t s lawful answer read made fresh free strips stripped a c = record {
   can = can_apply o (clean_of o bytes) t.told before v lawful read made fresh;
   before = before;
   given = clean_of o bytes;
   read = read;
   made = made;
   reads = λ f left told. record { bytes = bytes; given = answer f left told; free = free; whole = read.text; patches = read.patches };
+  stripped = λ f left told. stripped;
 }
 
 fresh-made : (b : Bool) (numbers : BackupNumbers) (told : Option Files) (before v : SetView) → IsMade b numbers told before v → IsFresh before → IsFresh v
@@ -88,11 +95,11 @@ fresh-made false numbers told before v is fresh = subst IsFresh (sym is) fresh
 
 -- the same of the set with its numbers, which were asked for over the same files
 pub asked_if : {E : Type 0} (o : PlainOptions) (bytes : List ℕ) (before : SetView) (t x : TreeView) (s : SourceView) → IsLawful o → input.IsAnswer (Ok bytes) o.input o.dir t s → IsRead o (clean_of o bytes) before → IsFresh before
-    → refusal o (clean_of o bytes) ≡ None → x.told ≡ t.told → (r : Result SetView E) → IfOk r (IsMade (asks_numbers o) o.numbers x.told before) → IfOk r (λ v. (a : ScratchView) (c : SinkView) → IsAsked o v (world t a s c))
-asked_if o bytes before t x s lawful answer read fresh free same (Ok v) made =
+    → refusal o (clean_of o bytes) ≡ None → (strips : Bool) → strips ≡ strips_returns o bytes → x.told ≡ t.told → (r : Result SetView E) → IfOk r (IsMade (asks_numbers o) o.numbers x.told before) → IfOk r (λ v. (a : ScratchView) (c : SinkView) → IsAsked o strips v (world t a s c))
+asked_if o bytes before t x s lawful answer read fresh free strips stripped same (Ok v) made =
     let is : IsMade (asks_numbers o) o.numbers t.told before v = subst (λ (told : Option Files). IsMade (asks_numbers o) o.numbers told before v) same made in
-    asked_so o bytes before v t s lawful answer read is (fresh-made (asks_numbers o) o.numbers t.told before v is fresh) free
-asked_if o bytes before t x s lawful answer read fresh free same (Err e) made = tt
+    asked_so o bytes before v t s lawful answer read is (fresh-made (asks_numbers o) o.numbers t.told before v is fresh) free strips stripped
+asked_if o bytes before t x s lawful answer read fresh free strips stripped same (Err e) made = tt
 
 -- what is said of an answer holds where it is said of the answer of a call that comes last
 pub on_ok_so : {R E : Type 0} (P : Type 0) (r : Result R E) → P → OnOk r P
@@ -133,8 +140,8 @@ module _ (t u : TreeView) (s : SourceView) (opens : Opens t u) where
   input_behind (Ok (patch o)) a c f left told = told_behind o.input f left told
   input_behind (Err fault) a c f left told = tt
 
-  pub asked_behind : (o : PlainOptions) (v : SetView) (a : ScratchView) (c : SinkView) → IsAsked o v (world u a s c) → IsAsked o v (world t a s c)
-  asked_behind o v a c asked = record { can = asked.can; before = asked.before; given = asked.given; read = asked.read; made = subst (λ (x : Option Files). IsMade (asks_numbers o) o.numbers x asked.before v) opens.told asked.made; reads = λ f left told. asked.reads f left (input_behind (Ok (patch o)) a c f left told) }
+  pub asked_behind : (o : PlainOptions) (strips : Bool) (v : SetView) (a : ScratchView) (c : SinkView) → IsAsked o strips v (world u a s c) → IsAsked o strips v (world t a s c)
+  asked_behind o strips v a c asked = record { can = asked.can; before = asked.before; given = asked.given; read = asked.read; made = subst (λ (x : Option Files). IsMade (asks_numbers o) o.numbers x asked.before v) opens.told asked.made; reads = λ f left told. asked.reads f left (input_behind (Ok (patch o)) a c f left told); stripped = λ f left told. asked.stripped f left (input_behind (Ok (patch o)) a c f left told) }
 
   module _ (job : Result PlainJob WordFault) (w : TreeView) (r : SourceView) (a : ScratchView) (c : SinkView) where
     ends_behind : (why : Why) → EndsSo why job (world u a s c) → EndsSo why job (world t a s c)

@@ -1,10 +1,14 @@
 -- How a run is put together from the steps before its first change, and its file patches.
-use Rattle.std.proofs.Common.{◌≡◌, ◌⊎◌, inl, inr, ⊎_elim, ℕ, List, [], length, true, false, Bool, if◌then◌else◌, Option, Some, None, Result, Ok, Err, refl, sym, ◌∙◌, ap, subst}
+use Rattle.std.proofs.Common.{◌≡◌, ◌++◌, ◌⊎◌, inl, inr, ⊎_elim, ℕ, List, [], length, true, false, Bool, ◌||◌, if◌then◌else◌, Option, Some, None, Result, Ok, Err, refl, sym, ◌∙◌, ap, subst, arith}
 use Rattle.outside.specs.Files.{Files}
 use Rattle.outside.specs.TreeView.{TreeView, Passes, passes_both}
 use Rattle.outside.specs.SourceView.{SourcePasses}
 use Rattle.outside.specs.Calls.{IsUntouched}
 use Rattle.outside.specs.Quiet.{LeavesPrefix}
+use Rattle.outside.specs.SinkView.{SinkView, SinkPasses, sink_passes_both, Receives, ReceivesPart}
+use Rattle.outside.specs.SinkView as sink
+use Rattle.outside.specs.ScratchView.{ScratchView, ScratchPasses, scratch_passes_none}
+use Rattle.outside.proofs.Writing.{received_both, received_part, part_after, part_longer}
 use Rattle.outside.proofs.Views.{rises_then, since_split}
 use Rattle.line_store.specs.declared.fault.OpenFault.{OpenFault}
 use Rattle.line_store.specs.declared.fault.OpenFault.TheVariants as open_fault
@@ -30,62 +34,28 @@ use Rattle.patch_run.specs.Answer.{IsAnswer}
 use Rattle.backup_numbers.specs.Numbering.{asks_numbers}
 use Rattle.patch_cli.specs.Numbered.{IsMade}
 use Rattle.patch_cli.proofs.Numbered.{cut-made}
+use Rattle.patch_run.proofs.Entry.{nothing_yet}
 use Rattle.patch_run.proofs.Receipts.{memory_end, receipt_end, receipt_fault}
 use Rattle.patch_cli.specs.Answers.{Sort, sort_of, IsEarly}
 use Rattle.patch_cli.specs.Answers.Sort.{ended}
-use Rattle.patch_cli.specs.Command.{Reads, command, on_job}
+use Rattle.patch_cli.specs.Damaged.{has_damaged}
+use Rattle.patch_cli.specs.Returns.{strips_returns, stripping_line, says_stripping, first_said}
+use Rattle.patch_cli.specs.Command.{Reads, bad_where, behind, command, on_job}
 use Rattle.patch_cli.specs.Worlds.{World, TellsFiles, TellsLeft, TellsInput, AsksFor, reads_source, pages_all}
 use Rattle.patch_cli.specs.Causes.{HasCause}
 use Rattle.patch_run.specs.Scratches.{scratch_behind_all}
 use Rattle.patch_run.specs.Finishes.{IsToldTo, HasPlanCause, Finishes}
 use Rattle.patch_run.specs.Finishes as finishes
 use Rattle.patch_cli.specs.Opening.{IsAsked}
-use Rattle.patch_cli.specs.Carries.{Answers, Untouched, QuietAfter, IsEnd, HasRead, Heeds, IsCut, BreaksOff, Carries, NoneFailed, IsComplete}
+use Rattle.patch_cli.specs.Carries.{Answers, Untouched, QuietAfter, IsEnd, HasRead, Heeds, HasBegun, HasSaidFirst, IsCut, BreaksOff, Carries, NoneFailed, IsComplete}
 use Rattle.run_answers.proofs.Opens.{opens_both, opens_untouched, tidy_behind}
 use Rattle.patch_cli.proofs.Asked.{tells_input, carried-match}
+use Rattle.patch_cli.proofs.Stripping.{Begins, loud}
 
 -- ---- behind the reading: an answer of the run, or a first part of it
 module _ (u w : World) {v : TreeView} (opens : Opens u.tree v) where
-  part_on : (r : Run) (count : ℕ) → doing.IsPartOf v w.tree u.out w.out r.effects r.said → FirstPart u.tree w.tree u.out w.out r.effects r.said
-  part_on r count part = record { tells = λ f g was now. part.tells f g (opens.told ∙ was) now; said = part.said }
-
-  far_on : (r : Run) (count : ℕ) (why : Why) (applied : Option Receipt) (f : Files) → u.tree.told ≡ Some f → doing.IsFar v w.tree u.out w.out r
-      → why ≡ (carried_out count r).why → applied ≡ (carried_out count r).applied → IsAnswer why applied f w.tree u.out w.out (carried_out count r)
-  far_on r count why applied f told far is receipt = record {
-    is = is;
-    text = far.said;
-    files = far.now;
-    made = far.made.live f r.files (opens.told ∙ told) far.now;
-    applied = receipt;
-  }
-
-  stop_on : (r : Run) (count : ℕ) (why : Why) (f : Files) → u.tree.told ≡ Some f → doing.IsFar v w.tree u.out w.out r
-      → (fault : OpenFault) → r.stop ≡ Some fault → why ≡ of_run (of_open fault) → IsAnswer why None f w.tree u.out w.out (carried_out count r)
-  stop_on r count why f told far fault stop is = far_on r count why None f told far
-      (is ∙ sym (ap (λ s. end_of s r.is_bad) stop))
-      (sym (ap (λ s. receipt_if s (record { is_bad = r.is_bad; done = count; effects = length r.effects })) stop))
-
-  -- a fault's answer
-  answers_fault : (e : RunFault) (r : Run) (count : ℕ) (f : Files) → u.tree.told ≡ Some f → doing.IsCutOff e v w.tree u.out w.out r → Answers (sort_of (of_run e)) (of_run e) None f u w (carried_out count r)
-  answers_fault runs.Tree r count f told cut = part_on r count cut
-  answers_fault runs.Write r count f told cut = part_on r count cut
-  answers_fault runs.Scratch r count f told cut = part_on r count cut
-  answers_fault (runs.LongLine line length) r count f told cut = stop_on r count (LongLine line length) f told cut.1 (open_fault.LongLine line length) cut.0 refl
-  answers_fault (runs.FileTooLong length) r count f told cut = stop_on r count (FileTooLong length) f told cut.1 (open_fault.FileTooLong length) cut.0 refl
-  answers_fault (runs.Disagree want got) r count f told cut = part_on r count cut
-  answers_fault runs.Memory r count f told cut = part_on r count cut
-
   told_to : (o : PlainOptions) (f : Files) → TellsFiles (Ok (patch o)) u f → IsToldTo o v u.scratch f
   told_to o f told = record { files = opens.told ∙ told.files; scratch = told.scratch }
-
-  cause_fault : (o : PlainOptions) (e : RunFault) → HasPlanCause e o v w.tree u.scratch w.scratch u.out w.out → HasCause (of_run e) (Ok (patch o)) u w
-  cause_fault o runs.Tree cause = rises_then u.tree v w.tree opens.passes cause
-  cause_fault o runs.Write cause = cause
-  cause_fault o runs.Scratch cause = cause
-  cause_fault o (runs.LongLine line length) cause = cause
-  cause_fault o (runs.FileTooLong length) cause = cause
-  cause_fault o (runs.Disagree want got) cause = (cause.0, λ f told. cause.1 f (told_to o f told))
-  cause_fault o runs.Memory cause = tt
 
   tidy_fault : (e : RunFault) → UnlessFailed e (IsTidy v w.tree) → is_fault (of_run e) ≡ false → IsTidy u.tree w.tree
   tidy_fault runs.Tree tidy is = absurd (cc)
@@ -96,11 +66,70 @@ module _ (u w : World) {v : TreeView} (opens : Opens u.tree v) where
   tidy_fault (runs.Disagree want got) tidy is = tidy_behind u.tree v w.tree opens.told tidy
   tidy_fault runs.Memory tidy is = tidy_behind u.tree v w.tree opens.told tidy
 
-  -- a paged plan that found no memory hasn't begun
-  not_begun : finishes.IsNotBegun v w.tree u.scratch w.scratch u.out w.out → IsAsAtEntry u.tree w.tree u.scratch w.scratch u.out w.out
-  not_begun none =
-      let both = opens_both opens (opens_untouched none.tree) in
-      record { told = both.told; scratch = none.scratch; out = none.out; images = both.images }
+  -- behind what is said first
+  module _ (o : PlainOptions) (strips : Bool) {m : SinkView} (begins : Begins o strips u.out m) where
+    abbrev first : List ℕ
+    first = first_said o strips
+
+    part_on : (r : Run) (count : ℕ) → doing.IsPartOf v w.tree m w.out r.effects r.said → FirstPart u.tree w.tree u.out w.out r.effects (first ++ r.said)
+    part_on r count part = record { tells = λ f g was now. part.tells f g (opens.told ∙ was) now; said = part_after u.out m w.out first r.said begins.first part.said }
+
+    far_on : (r : Run) (count : ℕ) (why : Why) (applied : Option Receipt) (f : Files) → u.tree.told ≡ Some f → doing.IsFar v w.tree m w.out r
+        → why ≡ (carried_out count r).why → applied ≡ (carried_out count r).applied → IsAnswer why applied f w.tree u.out w.out (behind first (carried_out count r))
+    far_on r count why applied f told far is receipt = record {
+      is = is;
+      text = received_both u.out m w.out first r.said begins.first far.said;
+      files = far.now;
+      made = far.made.live f r.files (opens.told ∙ told) far.now;
+      applied = receipt;
+    }
+
+    stop_on : (r : Run) (count : ℕ) (why : Why) (f : Files) → u.tree.told ≡ Some f → doing.IsFar v w.tree m w.out r
+        → (fault : OpenFault) → r.stop ≡ Some fault → why ≡ of_run (of_open fault) → IsAnswer why None f w.tree u.out w.out (behind first (carried_out count r))
+    stop_on r count why f told far fault stop is = far_on r count why None f told far
+        (is ∙ sym (ap (λ s. end_of s r.is_bad) stop))
+        (sym (ap (λ s. receipt_if s (record { is_bad = r.is_bad; done = count; effects = length r.effects })) stop))
+
+    -- a fault's answer
+    answers_fault : (e : RunFault) (r : Run) (bad : Bool) (count : ℕ) (f : Files) → u.tree.told ≡ Some f → doing.IsCutOff e v w.tree m w.out r
+        → Answers (sort_of (of_run e)) (of_run e) None f u w (behind first (carried_out count (bad_where bad r)))
+    answers_fault runs.Tree r bad count f told cut = part_on r count cut
+    answers_fault runs.Write r bad count f told cut = part_on r count cut
+    answers_fault runs.Scratch r bad count f told cut = part_on r count cut
+    answers_fault (runs.LongLine line length) r bad count f told cut = stop_on (bad_where bad r) count (LongLine line length) f told cut.1 (open_fault.LongLine line length) cut.0 refl
+    answers_fault (runs.FileTooLong length) r bad count f told cut = stop_on (bad_where bad r) count (FileTooLong length) f told cut.1 (open_fault.FileTooLong length) cut.0 refl
+    answers_fault (runs.Disagree want got) r bad count f told cut = part_on r count cut
+    answers_fault runs.Memory r bad count f told cut = part_on r count cut
+
+    cause_fault : (e : RunFault) → HasPlanCause e o v w.tree u.scratch w.scratch m w.out → HasCause (of_run e) (Ok (patch o)) u w
+    cause_fault runs.Tree cause = rises_then u.tree v w.tree opens.passes cause
+    cause_fault runs.Write cause = λ small. omega (arith, cause small, begins.passes.counts)
+    cause_fault runs.Scratch cause = cause
+    cause_fault (runs.LongLine line length) cause = cause
+    cause_fault (runs.FileTooLong length) cause = cause
+    cause_fault (runs.Disagree want got) cause = (cause.0, λ f told. cause.1 f (told_to o f told))
+    cause_fault runs.Memory cause = tt
+
+    -- a paged plan that found no memory hasn't begun
+    abbrev NoneYet : Type 0
+    NoneYet = IsAsAtEntry u.tree w.tree u.scratch w.scratch u.out w.out ⊎ ((says_stripping o strips ≡ true) × HasBegun u w)
+
+    not_begun : finishes.IsNotBegun v w.tree u.scratch w.scratch m w.out → NoneYet
+    not_begun none =
+        let both = opens_both opens (opens_untouched none.tree) in
+        elim (says_stripping o strips) as (λ b. says_stripping o strips ≡ b → NoneYet) [
+          | true ↦ λ is. inr (
+            is,
+            record {
+              told = both.told;
+              scratch = none.scratch;
+              images = both.images;
+              said = subst (λ (x : SinkView). ReceivesPart u.out x stripping_line) (sym none.out)
+                  (received_part u.out m stripping_line (subst (λ (b : Bool). Receives u.out m (if b then stripping_line else [])) is begins.first));
+            },
+          )
+          | false ↦ λ is. inl (record { told = both.told; scratch = none.scratch; out = none.out ∙ begins.still is; images = both.images })
+        ] refl
 
 module _ (u w : World) where
   untouched_fault : (e : RunFault) → Untouched (sort_of (of_run e)) u w
@@ -148,10 +177,18 @@ ended_cause : (bad : Bool) (job : Result PlainJob WordFault) (u w : World) → H
 ended_cause true job u w = tt
 ended_cause false job u w = tt
 
+-- a receipt that is bad for another reason, too, where there is one
+abbrev bad_with : Bool → Receipt → Receipt
+bad_with is_bad r = record { is_bad = r.is_bad || is_bad; done = r.done; effects = r.effects }
+
 -- behind the reading
-module _ (words : List (List ℕ)) (u w : World) {v : TreeView} {o : PlainOptions} {set : SetView} (opens : Opens u.tree v) (job : job_of words ≡ Ok (patch o)) (asked : IsAsked o set u) where
+module _ (words : List (List ℕ)) (u w : World) {v : TreeView} {o : PlainOptions} {strips : Bool} {set : SetView} (opens : Opens u.tree v) (job : job_of words ≡ Ok (patch o)) (asked : IsAsked o strips set u) where
   reads : (f : Files) (left : List ℕ) → TellsInput (job_of words) u f left → Reads o f left asked.before.text (plain_patches asked.before)
   reads f left told = asked.reads f left (subst (λ j. TellsInput j u f left) job told)
+
+  stripped : (f : Files) (left : List ℕ) (told : TellsInput (job_of words) u f left) → strips ≡ strips_returns o (reads f left told).bytes
+  unfolding reads
+  stripped f left told = asked.stripped f left (subst (λ j. TellsInput j u f left) job told)
 
   -- the numbers are those of the files at entry
   made : (f : Files) → u.tree.told ≡ Some f → IsMade (asks_numbers o) o.numbers (Some f) asked.before set
@@ -169,15 +206,24 @@ module _ (words : List (List ℕ)) (u w : World) {v : TreeView} {o : PlainOption
   heeds_fault (runs.Disagree want got) f left told = inr (has_read f left told)
   heeds_fault runs.Memory f left told = inr (has_read f left told)
 
-  is_carried : (f : Files) (left : List ℕ) → TellsFiles (job_of words) u f → TellsLeft (job_of words) u left → command words f left ≡ carried_out (length set.patches) (set_run o set f)
+  abbrev bad_receipt : Receipt → Receipt
+  bad_receipt r = bad_with (has_damaged set.ways set.text) r
+
+  -- what the set's run comes to with the lines between its file patches
+  abbrev comes_to : Files → Outcome
+  comes_to f = behind (first_said o strips) (carried_out (length set.patches) (bad_where (has_damaged set.ways set.text) (set_run o set f)))
+
+  is_carried : (f : Files) (left : List ℕ) → TellsFiles (job_of words) u f → TellsLeft (job_of words) u left → command words f left ≡ comes_to f
   is_carried f left told tells =
-      ap (λ j. on_job j f left) job ∙ carried-match o asked.given asked.before set asked.read f (made f told.files) left (reads f left (tells_input (job_of words) u f left told tells))
+      let is = tells_input (job_of words) u f left told tells in
+      ap (λ j. on_job j f left) job ∙ carried-match o asked.given asked.before set asked.read f (made f told.files) left (reads f left is)
+      ∙ ap (λ (b : Bool). behind (first_said o b) (carried_out (length set.patches) (bad_where (has_damaged set.ways set.text) (set_run o set f)))) (sym (stripped f left is))
 
   tells_run : (f : Files) → TellsFiles (job_of words) u f → IsToldTo o v u.scratch f
   tells_run f told = told_to u w opens o f (subst (λ j. TellsFiles j u f) job told)
 
   answers_run : (why : Why) (applied : Option Receipt) (s : Sort)
-      → ((f : Files) → u.tree.told ≡ Some f → IsToldTo o v u.scratch f → Answers s why applied f u w (carried_out (length set.patches) (set_run o set f)))
+      → ((f : Files) → u.tree.told ≡ Some f → IsToldTo o v u.scratch f → Answers s why applied f u w (comes_to f))
       → (f : Files) (left : List ℕ) → TellsFiles (job_of words) u f → TellsLeft (job_of words) u left → Answers s why applied f u w (command words f left)
   answers_run why applied s gives f left told tells =
       subst (λ (x : Outcome). Answers s why applied f u w x) (sym (is_carried f left told tells)) (gives f told.files (tells_run f told))
@@ -189,20 +235,19 @@ module _ (words : List (List ℕ)) (u w : World) {v : TreeView} {o : PlainOption
       (λ later. inr (moments f (tells_run f told) f (opens.told ∙ told.files) c later))
       (since_split passes u.tree.moment c opens.passes.later since))
 
-  -- the run was cut off at one of the file patches, or before the first
-  cuts_at : (e : RunFault) (f : Files) (left : List ℕ) → TellsFiles (job_of words) u f → TellsLeft (job_of words) u left
-      → finishes.IsNotBegun v w.tree u.scratch w.scratch u.out w.out ⊎ doing.IsCutAt e w.tree u.out w.out o set.output (items_of set) f
-      → IsAsAtEntry u.tree w.tree u.scratch w.scratch u.out w.out ⊎ AsksFor (job_of words) (IsCut (of_run e) u w f left)
-  cuts_at e f left told tells = ⊎_elim (λ none. inl (not_begun u w opens none)) (λ at. inr (subst (λ j. AsksFor j (IsCut (of_run e) u w f left)) (sym job) (record {
-    text = asked.before.text;
-    patches = plain_patches asked.before;
-    read = reads f left (tells_input (job_of words) u f left told tells);
-    fault = e;
-    is = refl;
-    cut = cut-made o asked.given asked.before set asked.read f (made f told.files) e w.tree u.out w.out at;
-  })))
+  -- that line is there
+  says_first : (f : Files) (left : List ℕ) → TellsInput (job_of words) u f left → says_stripping o strips ≡ true → HasBegun u w → AsksFor (job_of words) (HasSaidFirst u w f left)
+  says_first f left told says begun = subst (λ j. AsksFor j (HasSaidFirst u w f left)) (sym job) (record {
+    begun = begun;
+    bytes = (reads f left told).bytes;
+    given = (reads f left told).given;
+    says = ap (λ (b : Bool). says_stripping o b) (sym (stripped f left told)) ∙ says;
+  })
 
-  breaks_fault : (e : RunFault) (f : Files) (left : List ℕ) → IsAsAtEntry u.tree w.tree u.scratch w.scratch u.out w.out ⊎ AsksFor (job_of words) (IsCut (of_run e) u w f left) → BreaksOff (sort_of (of_run e)) (of_run e) (job_of words) u w f left
+  abbrev IsCutShort : Why → Files → List ℕ → Type 0
+  IsCutShort why f left = IsAsAtEntry u.tree w.tree u.scratch w.scratch u.out w.out ⊎ (AsksFor (job_of words) (HasSaidFirst u w f left) ⊎ AsksFor (job_of words) (IsCut why u w f left))
+
+  breaks_fault : (e : RunFault) (f : Files) (left : List ℕ) → IsCutShort (of_run e) f left → BreaksOff (sort_of (of_run e)) (of_run e) (job_of words) u w f left
   breaks_fault runs.Tree f left cut = cut
   breaks_fault runs.Write f left cut = cut
   breaks_fault runs.Scratch f left cut = cut
@@ -216,73 +261,128 @@ module _ (words : List (List ℕ)) (u w : World) {v : TreeView} {o : PlainOption
 
   module _ (source : SourcePasses u.source w.source) (taken : TakesAtMost 268435457 u.source w.source) (none_read : reads_source (job_of words) ≡ false → w.source ≡ u.source)
       (read : reads_source (job_of words) ≡ true → (left : List ℕ) → u.source.told ≡ Some left → w.source.told ≡ Some []) where
-    carries_fault : (e : RunFault) → Finishes o set v w.tree u.scratch w.scratch u.out w.out (Err e) → Carries words u w (of_run e) None
-    carries_fault e does = record {
-      tree = passes_both opens.passes does.tree;
-      scratch = does.scratch;
-      source = source;
-      sink = does.sink;
-      cause = subst (λ j. HasCause (of_run e) j u w) (sym job) (cause_fault u w opens o e does.cause);
-      untouched = untouched_fault u w e;
-      quiet = quiet_fault u w e does.quiet;
-      receipt = receipt_fault e;
-      starved = λ is pages. not_begun u w opens (does.starved (ap (λ (x : RunFault). Err x) (memory_fault e is)) (subst (λ j. pages_all j ≡ true) job pages));
-      read = λ behind. read;
-      unread = none_read;
-      taken = taken;
-      answers = answers_run (of_run e) None (sort_of (of_run e)) (λ f told to. answers_fault u w opens e (set_run o set f) (length set.patches) f told (does.cut f to));
-      images = images_run does.tree does.moments;
-      heeds = heeds_fault e;
-      cut = λ f left told tells. breaks_fault e f left (cuts_at e f left told tells (does.cut_at f (tells_run f told)));
-      pages = λ is f left before told tells was. absurd (end_fault e is);
-      tidy = tidy_fault u w opens e does.tidy;
-      dry = dry_run does.dry;
-    }
-
-    -- the run was broken off, or a file isn't taken
-    pub carries_cut : (result : Result Receipt RunFault) (e : RunFault) (why : Why) → result ≡ Err e → why ≡ of_run e → Finishes o set v w.tree u.scratch w.scratch u.out w.out result → Carries words u w why None
-    carries_cut result e why is says does =
-        subst (λ (x : Why). Carries words u w x None) (sym says) (carries_fault e (subst (λ (r : Result Receipt RunFault). Finishes o set v w.tree u.scratch w.scratch u.out w.out r) is does))
-
-    end_answer : (receipt : Receipt) → Finishes o set v w.tree u.scratch w.scratch u.out w.out (Ok receipt) → (f : Files) → u.tree.told ≡ Some f → IsToldTo o v u.scratch f
-        → IsAnswer (if receipt.is_bad then Rejected else Done) (Some receipt) f w.tree u.out w.out (carried_out (length set.patches) (set_run o set f))
-    end_answer receipt does f told to =
-        let r = set_run o set f in
-        far_on u w opens r (length set.patches) (if receipt.is_bad then Rejected else Done) (Some receipt) f told (does.whole f to)
-        (ap (λ (x : Receipt). if x.is_bad then Rejected else Done) (does.receipt f to) ∙ sym (ap (λ s. end_of s r.is_bad) (does.going f to)))
-        (ap (λ (x : Receipt). Some x) (does.receipt f to) ∙ sym (ap (λ s. receipt_if s (finishes.receipt_of set r)) (does.going f to)))
-
-    carries_done : (receipt : Receipt) → Finishes o set v w.tree u.scratch w.scratch u.out w.out (Ok receipt) → Carries words u w (if receipt.is_bad then Rejected else Done) (Some receipt)
-    carries_done receipt does =
-        let why : Why = if receipt.is_bad then Rejected else Done in
-        let is : sort_of why ≡ ended = ended_sort receipt.is_bad in
+    -- what is said first couldn't be written whole
+    pub carries_unsaid : w.tree ≡ v → w.scratch ≡ u.scratch → SinkPasses u.out w.out → sink.Rises u.out w.out → ReceivesPart u.out w.out (first_said o strips) → says_stripping o strips ≡ true → Carries words u w WriteFault None
+    carries_unsaid tree scratch passes rises part says =
+        let still : Opens u.tree w.tree = subst (λ (x : TreeView). Opens u.tree x) (sym tree) opens in
+        let none : IsAsAtEntry u.tree w.tree u.scratch w.scratch u.out u.out = record { told = still.told; scratch = scratch; out = refl; images = still.images } in
+        let begun : HasBegun u w = record { told = still.told; scratch = scratch; images = still.images; said = subst (λ (b : Bool). ReceivesPart u.out w.out (if b then stripping_line else [])) says part } in
         record {
-          tree = passes_both opens.passes does.tree;
-          scratch = does.scratch;
+          tree = still.passes;
+          scratch = subst (λ (x : ScratchView). ScratchPasses u.scratch x) (sym scratch) (scratch_passes_none u.scratch);
           source = source;
-          sink = does.sink;
-          cause = ended_cause receipt.is_bad (job_of words) u w;
-          untouched = subst (λ s. Untouched s u w) (sym is) tt;
-          quiet = subst (λ s. QuietAfter s w) (sym is) does.quiet;
-          receipt = receipt_end receipt.is_bad receipt refl;
-          starved = λ is pages. absurd (memory_end receipt.is_bad is);
-          read = λ behind. read;
+          sink = passes;
+          cause = rises;
+          untouched = tt;
+          quiet = tt;
+          receipt = refl;
+          starved = λ is. absurd (cc);
+          read = λ never. read;
           unread = none_read;
           taken = taken;
-          answers = answers_run why (Some receipt) (sort_of why) (λ f told to. subst (λ s. Answers s why (Some receipt) f u w (carried_out (length set.patches) (set_run o set f))) (sym is) (end_answer receipt does f told to));
-          images = images_run does.tree does.moments;
-          heeds = λ f left told. subst (λ s. Heeds s why (job_of words) u w f left) (sym is) (has_read f left told);
-          cut = λ f left told tells. subst (λ s. BreaksOff s why (job_of words) u w f left) (sym is) tt;
-          tidy = λ none. tidy_behind u.tree v w.tree opens.told does.tidy;
-          dry = dry_run does.dry;
-          pages = λ finished f left before told tells was. subst (λ j. AsksFor j (λ p. w.scratch.told ≡ Some (scratch_behind_all p (command words f left).taken before))) (sym job)
-              (does.holds f before (tells_run f told) was ∙ ap (λ (x : Outcome). Some (scratch_behind_all o x.taken before)) (sym (is_carried f left told tells)));
+          answers = λ f left told tells. subst (λ (x : Outcome). FirstPart u.tree w.tree u.out w.out x.effects x.text) (sym (is_carried f left told tells))
+              (record { tells = (nothing_yet none f (comes_to f) told.files).tells; said = part_longer u.out w.out (first_said o strips) (set_run o set f).said part });
+          images = λ f left told tells c since. inl (still.images c since);
+          heeds = λ f left told. inr (has_read f left told);
+          cut = λ f left told tells. inr (inl (says_first f left (tells_input (job_of words) u f left told tells) says begun));
+          pages = λ is f left before told tells was. absurd is;
+          tidy = λ is. absurd (cc);
+          dry = λ asks. still;
         }
 
-    -- every file patch had its turn
-    pub carries_end : (result : Result Receipt RunFault) (receipt : Receipt) → result ≡ Ok receipt → Finishes o set v w.tree u.scratch w.scratch u.out w.out result
-        → Carries words u w (if receipt.is_bad then Rejected else Done) (Some receipt)
-    carries_end result receipt is does = carries_done receipt (subst (λ (r : Result Receipt RunFault). Finishes o set v w.tree u.scratch w.scratch u.out w.out r) is does)
+    -- it was
+    module _ {m : SinkView} (begins : Begins o strips u.out m) where
+      starves : NoneYet u w opens o strips begins → IsAsAtEntry u.tree w.tree u.scratch w.scratch u.out w.out ⊎ (AsksFor (job_of words) (λ p. p.silent ≡ false) × HasBegun u w)
+      starves none = ⊎_elim (λ entry. inl entry) (λ (says, begun). inr (subst (λ j. AsksFor j (λ p. p.silent ≡ false)) (sym job) (loud strips o.silent says), begun)) none
+
+      -- the run was cut off at one of the file patches, or before the first
+      cuts_at : (e : RunFault) (f : Files) (left : List ℕ) → TellsFiles (job_of words) u f → TellsLeft (job_of words) u left
+          → finishes.IsNotBegun v w.tree u.scratch w.scratch m w.out ⊎ doing.IsCutAt e w.tree m w.out o set.output (items_of set) f → IsCutShort (of_run e) f left
+      cuts_at e f left told tells is =
+          let read_so = tells_input (job_of words) u f left told tells in
+          ⊎_elim
+          (λ none. ⊎_elim (λ entry. inl entry) (λ (says, begun). inr (inl (says_first f left read_so says begun))) (not_begun u w opens o strips begins none))
+          (λ at. inr (inr (subst (λ j. AsksFor j (IsCut (of_run e) u w f left)) (sym job) (record {
+            text = asked.before.text;
+            patches = plain_patches asked.before;
+            read = reads f left read_so;
+            fault = e;
+            is = refl;
+            middle = m;
+            first = subst (λ (b : Bool). Receives u.out m (first_said o b)) (stripped f left read_so) begins.first;
+            cut = cut-made o asked.given asked.before set asked.read f (made f told.files) e w.tree m w.out at;
+          }))))
+          is
+
+      carries_fault : (e : RunFault) → Finishes o set v w.tree u.scratch w.scratch m w.out (Err e) → Carries words u w (of_run e) None
+      carries_fault e does = record {
+        tree = passes_both opens.passes does.tree;
+        scratch = does.scratch;
+        source = source;
+        sink = sink_passes_both begins.passes does.sink;
+        cause = subst (λ j. HasCause (of_run e) j u w) (sym job) (cause_fault u w opens o strips begins e does.cause);
+        untouched = untouched_fault u w e;
+        quiet = quiet_fault u w e does.quiet;
+        receipt = receipt_fault e;
+        starved = λ is pages. starves (not_begun u w opens o strips begins (does.starved (ap (λ (x : RunFault). Err x) (memory_fault e is)) (subst (λ j. pages_all j ≡ true) job pages)));
+        read = λ behind. read;
+        unread = none_read;
+        taken = taken;
+        answers = answers_run (of_run e) None (sort_of (of_run e)) (λ f told to. answers_fault u w opens o strips begins e (set_run o set f) (has_damaged set.ways set.text) (length set.patches) f told (does.cut f to));
+        images = images_run does.tree does.moments;
+        heeds = heeds_fault e;
+        cut = λ f left told tells. breaks_fault e f left (cuts_at e f left told tells (does.cut_at f (tells_run f told)));
+        pages = λ is f left before told tells was. absurd (end_fault e is);
+        tidy = tidy_fault u w opens e does.tidy;
+        dry = dry_run does.dry;
+      }
+
+      -- the run was broken off, or a file isn't taken
+      pub carries_cut : (result : Result Receipt RunFault) (e : RunFault) (why : Why) → result ≡ Err e → why ≡ of_run e → Finishes o set v w.tree u.scratch w.scratch m w.out result → Carries words u w why None
+      carries_cut result e why is says does =
+          subst (λ (x : Why). Carries words u w x None) (sym says) (carries_fault e (subst (λ (r : Result Receipt RunFault). Finishes o set v w.tree u.scratch w.scratch m w.out r) is does))
+
+      end_answer : (receipt given : Receipt) → given ≡ bad_receipt receipt → Finishes o set v w.tree u.scratch w.scratch m w.out (Ok receipt) → (f : Files) → u.tree.told ≡ Some f → IsToldTo o v u.scratch f
+          → IsAnswer (if given.is_bad then Rejected else Done) (Some given) f w.tree u.out w.out (comes_to f)
+      end_answer receipt given is does f told to =
+          let r = set_run o set f in
+          let whole : given ≡ bad_receipt (finishes.receipt_of set r) = is ∙ ap bad_receipt (does.receipt f to) in
+          far_on u w opens o strips begins (bad_where (has_damaged set.ways set.text) r) (length set.patches) (if given.is_bad then Rejected else Done) (Some given) f told (does.whole f to)
+          (ap (λ (x : Receipt). if x.is_bad then Rejected else Done) whole ∙ sym (ap (λ s. end_of s (r.is_bad || has_damaged set.ways set.text)) (does.going f to)))
+          (ap (λ (x : Receipt). Some x) whole ∙ sym (ap (λ s. receipt_if s (bad_receipt (finishes.receipt_of set r))) (does.going f to)))
+
+      carries_done : (receipt given : Receipt) → given ≡ bad_receipt receipt → Finishes o set v w.tree u.scratch w.scratch m w.out (Ok receipt) → Carries words u w (if given.is_bad then Rejected else Done) (Some given)
+      carries_done receipt given same does =
+          let why : Why = if given.is_bad then Rejected else Done in
+          let is : sort_of why ≡ ended = ended_sort given.is_bad in
+          record {
+            tree = passes_both opens.passes does.tree;
+            scratch = does.scratch;
+            source = source;
+            sink = sink_passes_both begins.passes does.sink;
+            cause = ended_cause given.is_bad (job_of words) u w;
+            untouched = subst (λ s. Untouched s u w) (sym is) tt;
+            quiet = subst (λ s. QuietAfter s w) (sym is) does.quiet;
+            receipt = receipt_end given.is_bad given refl;
+            starved = λ is pages. absurd (memory_end given.is_bad is);
+            read = λ behind. read;
+            unread = none_read;
+            taken = taken;
+            answers = answers_run why (Some given) (sort_of why) (λ f told to. subst (λ s. Answers s why (Some given) f u w (comes_to f)) (sym is) (end_answer receipt given same does f told to));
+            images = images_run does.tree does.moments;
+            heeds = λ f left told. subst (λ s. Heeds s why (job_of words) u w f left) (sym is) (has_read f left told);
+            cut = λ f left told tells. subst (λ s. BreaksOff s why (job_of words) u w f left) (sym is) tt;
+            tidy = λ none. tidy_behind u.tree v w.tree opens.told does.tidy;
+            dry = dry_run does.dry;
+            pages = λ finished f left before told tells was. subst (λ j. AsksFor j (λ p. w.scratch.told ≡ Some (scratch_behind_all p (command words f left).taken before))) (sym job)
+                (does.holds f before (tells_run f told) was ∙ ap (λ (x : Outcome). Some (scratch_behind_all o x.taken before)) (sym (is_carried f left told tells)));
+          }
+
+      -- every file patch had its turn
+      pub carries_end : (result : Result Receipt RunFault) (receipt given : Receipt) (bad : Bool) → bad ≡ has_damaged set.ways set.text → given ≡ bad_with bad receipt → result ≡ Ok receipt
+          → Finishes o set v w.tree u.scratch w.scratch m w.out result → Carries words u w (if given.is_bad then Rejected else Done) (Some given)
+      carries_end result receipt given bad told same is does = carries_done receipt given (same ∙ ap (λ b. bad_with b receipt) told)
+          (subst (λ (r : Result Receipt RunFault). Finishes o set v w.tree u.scratch w.scratch m w.out r) is does)
 
 -- the same by the names of its answer
 pub carries_as : {words : List (List ℕ)} {u w : World} {why : Why} {applied : Option Receipt} (y : Why) (given : Option Receipt) → y ≡ why → given ≡ applied → Carries words u w why applied → Carries words u w y given

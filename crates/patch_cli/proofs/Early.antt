@@ -120,7 +120,7 @@ carries_early {words = words} {u = u} {w = w} {why = why} opens scratch out sour
       untouched = untouched_early u w why job same (sort_of why);
       quiet = quiet_early u w why job same (sort_of why) stops.stops;
       receipt = no_receipt why job u stops.stops;
-      starved = λ is pages. same;
+      starved = λ is pages. inl same;
       read = λ behind reads left told. absurd (not_behind u w why job same (sort_of why) stops.stops behind);
       unread = none_read;
       taken = taken;

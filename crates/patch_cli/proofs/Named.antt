@@ -5,22 +5,22 @@ use Rattle.std.specs.Cmp.Lexicographic.{same_text}
 use Rattle.std.specs.Option.{ForSome}
 use Rattle.std.proofs.lemmas.List.{get_or-append-add, get_or-drop}
 use Rattle.std.proofs.lemmas.List.Elements.{All-nil, All-cons, All-head, All-tail}
-use Rattle.std.proofs.lemmas.Option.{none-some, same_Some}
+use Rattle.std.proofs.lemmas.Option.{same_Some}
 use Rattle.num_text.specs.Numbers.{decimal}
-use Rattle.outside.specs.Files.{Files, is_temp, temp_of}
+use Rattle.outside.specs.Files.{Files, is_temp}
 use Rattle.outside.specs.Numbered.{numbered}
 use Rattle.outside.proofs.Names.{temp_of_is_temp}
 use Rattle.file_patch.specs.declared.FilePatch.{FilePatch}
 use Rattle.file_patch.specs.declared.derived.Target.{Target}
-use Rattle.patch_options.specs.PlainJob.{PlainOptions}
 use Rattle.patch_options.specs.declared.options.BackupNumbers.{BackupNumbers}
 use Rattle.patch_set.specs.SetView.{SetView}
 use Rattle.patch_task.specs.Named.{IsNamed}
 use Rattle.patch_run.specs.Finishes.{HasNames}
 use Rattle.backup_numbers.specs.Numbering.{with_number}
-use Rattle.backup_numbers.specs.Renumbered.{Each, IsNumbered, IsNumberedIf, IsRetargeted, IsRenumbered}
+use Rattle.backup_numbers.specs.Renumbered.{Each, IsNumbered, IsNumberedIf, IsRetargeted}
 use Rattle.backup_numbers.proofs.Each.{each-long}
 use Rattle.patch_cli.specs.Numbered.{IsMade}
+use Rattle.patch_cli.specs.Damaged.{has_damaged}
 
 not-temp : (front : List ℕ) (b : ℕ) → 112 ≢ b → is_temp (front ++ b ∷ []) ≡ false
 unfolding is_temp
@@ -96,3 +96,7 @@ names-made false numbers told before v is names = subst HasNames (sym is) names
 pub long-made : (b : Bool) (numbers : BackupNumbers) (told : Option Files) (before v : SetView) → IsMade b numbers told before v → length before.patches ≡ length v.patches
 long-made true numbers told before v is = sym (each-long (IsRetargeted numbers told) before.patches v.patches is.patches)
 long-made false numbers told before v is = ap (λ (s : SetView). length s.patches) (sym is)
+
+pub damaged-made : (b : Bool) (numbers : BackupNumbers) (told : Option Files) (before v : SetView) → IsMade b numbers told before v → has_damaged before.ways before.text ≡ has_damaged v.ways v.text
+damaged-made true numbers told before v is = sym (ap (λ w. has_damaged w v.text) is.ways ∙ ap (λ (t : List ℕ). has_damaged before.ways t) is.text)
+damaged-made false numbers told before v is = ap (λ (s : SetView). has_damaged s.ways s.text) (sym is)

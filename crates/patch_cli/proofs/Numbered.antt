@@ -1,7 +1,6 @@
 -- A run over a set whose backups got their numbers is the run with these numbers over the file patches of its text.
-use Rattle.std.proofs.Common.{◌≡◌, ℕ, ◌<◌, ◌^◌, List, [], ◌∷◌, map, length, Bool, true, false, if◌then◌else◌, All, Option, None, Some, refl, sym, ◌∙◌, ap, subst, arith}
+use Rattle.std.proofs.Common.{◌≡◌, ℕ, List, [], ◌∷◌, map, Bool, true, false, if◌then◌else◌, Option, None, Some, refl, sym, ◌∙◌, ap, subst}
 use Rattle.std.specs.Prelude.{option_map}
-use Rattle.std.specs.Option.{ForSome}
 use Rattle.outside.specs.Files.{Files}
 use Rattle.outside.specs.TreeView.{TreeView}
 use Rattle.outside.specs.SinkView.{SinkView}
@@ -20,7 +19,7 @@ use Rattle.patch_task.specs.Turns.{Item}
 use Rattle.patch_task.specs.declared.fault.RunFault.{RunFault}
 use Rattle.patch_run.specs.Doing.{IsCutAt}
 use Rattle.patch_run.specs.Outcome.{items_for}
-use Rattle.patch_run.specs.Run.{Run, run_of, set_run, item_of, moved_in, items_of}
+use Rattle.patch_run.specs.Run.{run_of, set_run, item_of, moved_in, items_of}
 use Rattle.patch_run.proofs.Matching.{items-read}
 use Rattle.backup_numbers.specs.Numbering.{asks_numbers, numbered_target}
 use Rattle.backup_numbers.specs.Renumbered.{Each, IsNumbered, IsNumberedIf, IsRetargeted, IsRenumbered}

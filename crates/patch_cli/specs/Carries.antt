@@ -1,9 +1,9 @@
 -- What a run promises: that it is the command's, and what stands at each moment.
-use Rattle.std.specs.Prelude.{◌≡◌, ◌⊎◌, ℕ, List, [], true, false, Option, Some, Result}
+use Rattle.std.specs.Prelude.{◌≡◌, ◌⊎◌, ℕ, List, [], true, false, Option, Some, Result, Ok}
 use Rattle.outside.specs.Faults.{HasRisen}
 use Rattle.outside.specs.Files.{Files}
-use Rattle.outside.specs.TreeView.{Passes}
-use Rattle.outside.specs.SinkView.{SinkPasses}
+use Rattle.outside.specs.TreeView.{Passes, MayLeave, LeftSince}
+use Rattle.outside.specs.SinkView.{SinkView, SinkPasses, Receives, ReceivesPart}
 use Rattle.outside.specs.SourceView.{SourcePasses}
 use Rattle.outside.specs.ScratchView.{ScratchPasses}
 use Rattle.outside.specs.Quiet.{IsQuiet}
@@ -11,7 +11,7 @@ use Rattle.file_patch.specs.PlainPatch.{PlainPatch}
 use Rattle.patch_options.specs.PlainJob.{PlainOptions, PlainJob}
 use Rattle.patch_options.specs.Words.{job_of}
 use Rattle.patch_options.specs.declared.options.WordFault.{WordFault}
-use Rattle.run_answers.specs.Input.{TakesAtMost}
+use Rattle.run_answers.specs.Input.{TakesAtMost, input_bytes, answer_of}
 use Rattle.patch_run.specs.Applied.{Receipt}
 use Rattle.patch_run.specs.Doing.{IsCutAt}
 use Rattle.patch_task.specs.Making.{IsTidy}
@@ -26,6 +26,7 @@ use Rattle.patch_run.specs.Scratches.{scratch_behind_all}
 use Rattle.patch_run.specs.Outcome.{Outcome, refused}
 use Rattle.patch_cli.specs.Numbered.{asked_output, asked_items}
 use Rattle.patch_run.specs.Answer.{HasReceipt, IsAnswer}
+use Rattle.patch_cli.specs.Returns.{strips_returns, stripping_line, says_stripping, first_said}
 use Rattle.patch_cli.specs.Command.{Reads, on_job, command}
 use Rattle.patch_cli.specs.Worlds.{World, TellsFiles, TellsLeft, TellsInput, AsksFor, reads_source, pages_all}
 use Rattle.patch_cli.specs.Causes.{HasCause}
@@ -89,7 +90,21 @@ Heeds unread why job u w f left = Unit {0}
 Heeds broken why job u w f left = IsAsAtEntry u.tree w.tree u.scratch w.scratch u.out w.out ⊎ HasRead job f left
 Heeds starved why job u w f left = IsAsAtEntry u.tree w.tree u.scratch w.scratch u.out w.out ⊎ HasRead job f left
 
--- the run over the file patches of the patch text was cut off at one of them, those in front of it having come to their ends; of that one
+-- nothing was done, but a first part of the line that is said first may be written
+pub record HasBegun (u w : World) : Type 0 where
+  pub told : w.tree.told ≡ u.tree.told
+  pub scratch : w.scratch ≡ u.scratch
+  pub images : (c : Files) → LeftSince w.tree u.tree.moment c → MayLeave u.tree c
+  pub said : ReceivesPart u.out w.out stripping_line
+
+-- and the text that was read has that line
+pub record HasSaidFirst (u w : World) (f : Files) (left : List ℕ) (o : PlainOptions) : Type 0 where
+  pub begun : HasBegun u w
+  pub bytes : List ℕ
+  pub given : answer_of (input_bytes o.input o.dir f left) ≡ Ok bytes
+  pub says : says_stripping o (strips_returns o bytes) ≡ true
+
+-- the run over the file patches of the patch text was cut off at one of them, what is said first and those in front of it having come to their ends; of that one
 -- nothing is done before all that it says is in the output
 pub record IsCut (why : Why) (u w : World) (f : Files) (left : List ℕ) (o : PlainOptions) : Type 0 where
   pub text : List ℕ
@@ -97,7 +112,10 @@ pub record IsCut (why : Why) (u w : World) (f : Files) (left : List ℕ) (o : Pl
   pub read : Reads o f left text patches
   pub fault : RunFault
   pub is : why ≡ of_run fault
-  pub cut : IsCutAt fault w.tree u.out w.out o (asked_output o f patches) (asked_items o f text patches) f
+  -- the output behind what is said first
+  pub middle : SinkView
+  pub first : Receives u.out middle (first_said o (strips_returns o read.bytes))
+  pub cut : IsCutAt fault w.tree middle w.out o (asked_output o f patches) (asked_items o f text patches) f
 
 -- after a fault, or where memory ran out
 abbrev pub BreaksOff : Sort → Why → Result PlainJob WordFault → World → World → Files → List ℕ → Type 0
@@ -105,8 +123,8 @@ BreaksOff ended why job u w f left = Unit {0}
 BreaksOff halted why job u w f left = Unit {0}
 BreaksOff refusal why job u w f left = Unit {0}
 BreaksOff unread why job u w f left = Unit {0}
-BreaksOff broken why job u w f left = IsAsAtEntry u.tree w.tree u.scratch w.scratch u.out w.out ⊎ AsksFor job (IsCut why u w f left)
-BreaksOff starved why job u w f left = IsAsAtEntry u.tree w.tree u.scratch w.scratch u.out w.out ⊎ AsksFor job (IsCut why u w f left)
+BreaksOff broken why job u w f left = IsAsAtEntry u.tree w.tree u.scratch w.scratch u.out w.out ⊎ (AsksFor job (HasSaidFirst u w f left) ⊎ AsksFor job (IsCut why u w f left))
+BreaksOff starved why job u w f left = IsAsAtEntry u.tree w.tree u.scratch w.scratch u.out w.out ⊎ (AsksFor job (HasSaidFirst u w f left) ⊎ AsksFor job (IsCut why u w f left))
 
 -- all that is promised of a run of these words from one state of its devices to another
 pub record Carries (words : List (List ℕ)) (u w : World) (why : Why) (applied : Option Receipt) : Type 0 where
@@ -119,7 +137,7 @@ pub record Carries (words : List (List ℕ)) (u w : World) (why : Why) (applied 
   pub quiet : QuietAfter (sort_of why) w
   pub receipt : HasReceipt why applied
   -- a plan that keeps every file in the scratch wants no memory once there can be a change
-  pub starved : why ≡ Memory → pages_all (job_of words) ≡ true → IsAsAtEntry u.tree w.tree u.scratch w.scratch u.out w.out
+  pub starved : why ≡ Memory → pages_all (job_of words) ≡ true → IsAsAtEntry u.tree w.tree u.scratch w.scratch u.out w.out ⊎ (AsksFor (job_of words) (λ o. o.silent ≡ false) × HasBegun u w)
   -- standard input is read to its end, or not at all
   pub read : IsBehindReading (sort_of why) → reads_source (job_of words) ≡ true → (left : List ℕ) → u.source.told ≡ Some left → w.source.told ≡ Some []
   pub unread : reads_source (job_of words) ≡ false → w.source ≡ u.source

@@ -1,4 +1,6 @@
 pub mod Answers
+pub mod Returns
+pub mod Damaged
 pub mod Command
 pub mod Worlds
 pub mod Causes

@@ -1,5 +1,5 @@
 -- What comes before the first change.
-use Rattle.std.specs.Prelude.{◌≡◌, ℕ, List, Result, Ok}
+use Rattle.std.specs.Prelude.{◌≡◌, ℕ, Bool, List, Result, Ok}
 use Rattle.outside.specs.Files.{Files}
 use Rattle.patch_options.specs.PlainJob.{PlainOptions, PlainJob}
 use Rattle.patch_options.specs.PlainJob.PlainJob.{patch}
@@ -7,6 +7,7 @@ use Rattle.patch_options.specs.declared.options.WordFault.{WordFault}
 use Rattle.patch_set.specs.SetView.{SetView, IsRead, plain_patches}
 use Rattle.backup_numbers.specs.Numbering.{asks_numbers}
 use Rattle.patch_cli.specs.Numbered.{IsMade}
+use Rattle.patch_cli.specs.Returns.{strips_returns}
 use Rattle.run_answers.specs.declared.why.Why.{Why}
 use Rattle.patch_cli.specs.Answers.{Sort, sort_of}
 use Rattle.patch_cli.specs.Answers.Sort.{ended, halted, refusal, unread, broken, starved}
@@ -16,14 +17,16 @@ use Rattle.patch_cli.specs.Worlds.{World, TellsInput}
 use Rattle.patch_cli.specs.Causes.{HasCause}
 use Rattle.patch_run.specs.Finishes.{CanApply}
 
--- where it is told what they read, the patch text that these options name is this set, but for numbers of backups
-pub record IsAsked (o : PlainOptions) (v : SetView) (u : World) : Type 0 where
+-- where it is told what they read, the patch text that these options name is this set, but for numbers of backups, and it is known whether carriage
+-- returns were taken off
+pub record IsAsked (o : PlainOptions) (strips : Bool) (v : SetView) (u : World) : Type 0 where
   pub can : CanApply o v
   pub before : SetView
   pub given : List ℕ
   pub read : IsRead o given before
   pub made : IsMade (asks_numbers o) o.numbers u.tree.told before v
   pub reads : (f : Files) (left : List ℕ) → TellsInput (Ok (patch o)) u f left → Reads o f left before.text (plain_patches before)
+  pub stripped : (f : Files) (left : List ℕ) (told : TellsInput (Ok (patch o)) u f left) → strips ≡ strips_returns o (reads f left told).bytes
 
 -- where it is told what is read, the job ends so
 abbrev pub EndsSo : Why → Result PlainJob WordFault → World → Type 0

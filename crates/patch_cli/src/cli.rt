@@ -13,7 +13,9 @@ ghost use Rattle.patch_cli.specs.Worlds.{world, TellsFiles, TellsLeft, reads_sou
 ghost use Rattle.patch_run.specs.Answer.{why_of, receipt_of};
 ghost use Rattle.patch_cli.specs.Carries.{Carries, NoneFailed, IsComplete};
 
+use crate::damaged::has_damaged;
 use crate::opening::open;
+use crate::returns::say_stripping;
 use outside::{Scratch, Sink, Source, Tree};
 use patch_run::{Applied, Exit, apply, exit_of};
 use run_answers::{Why, report};
@@ -92,11 +94,19 @@ fn carry_out<T: Tree, C: Scratch, I: Source, O: Sink>(
         Ok(work) => work,
         Err(why) => return (Err(why), scratch),
     };
+    let is_damaged = has_damaged(&work.set);
+    match say_stripping(&work.options, work.strips, out) {
+        Ok(()) => {}
+        Err(_failed) => {
+            drop(work);
+            return (Err(Why::WriteFault), scratch);
+        }
+    }
     let (applied, scratch) = apply(alloc, &work.options, &mut work.set, scratch, tree, out);
     // (let go here, and not at the exits, where it would be proved field by field beside the devices)
     drop(work);
     match applied {
-        Ok(applied) => (Ok(applied), scratch),
+        Ok(applied) => (Ok(applied.bad_if(is_damaged)), scratch),
         Err(fault) => (Err(Why::from(fault)), scratch),
     }
 }

@@ -1,9 +1,11 @@
-//! All that the program does, over any tree, scratch, source and sinks.
+//! All that `patch` does with its words, over any tree, scratch, source and sinks.
 #![tactic(auto)]
 
 mod cli;
+mod damaged;
 mod laws;
 mod opening;
+mod returns;
 
 pub use cli::run;
 pub use laws::command_laws;

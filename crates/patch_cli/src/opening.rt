@@ -18,6 +18,7 @@ ghost use Rattle.patch_cli.specs.Opening.{IsAsked, StopsEarly};
 ghost use Rattle.backup_numbers.specs.Numbering.{asks_numbers};
 ghost use Rattle.patch_cli.specs.Numbered.{IsMade};
 
+use crate::returns::{has_return, strips_returns};
 use backup_numbers::{NumberFault, asks_numbers, number_backups};
 use clean_text::read_clean;
 use outside::{Source, Tree};
@@ -30,6 +31,8 @@ use std::alloc::Global;
 #[derive(Drop)]
 pub struct Work {
     pub options: Options,
+    /// Carriage returns were taken off the patch text.
+    pub strips: bool,
     pub set: PatchSet,
 }
 
@@ -49,7 +52,7 @@ pub fn open<T: Tree, I: Source>(
     ensures words { (fault : TheFault) → job_of (map string_bytes words.now) ≡ Err fault → IsErrAnd result (λ why. (why ≡ of_words fault) ⊎ (why ≡ Why.Memory)) }
     ensures still { (fault : TheFault) → job_of (map string_bytes words.now) ≡ Err fault → tree.new ≡ tree.old }
     ensures job { IfOk result (λ work. job_of (map string_bytes words.now) ≡ Ok (patch (plain_options work.options))) }
-    ensures asked { IfOk result (λ work. (a : ScratchView) (c : SinkView) → IsAsked (plain_options work.options) work.set (world (T.view tree.old) a (I.view source.old) c)) }
+    ensures asked { IfOk result (λ work. (a : ScratchView) (c : SinkView) → IsAsked (plain_options work.options) work.strips work.set (world (T.view tree.old) a (I.view source.old) c)) }
     ensures refused { IfErr result (λ why. (a : ScratchView) (c : SinkView) → StopsEarly why (job_of (map string_bytes words.now)) (world (T.view tree.old) a (I.view source.old) c) (world (T.view tree.new) a (I.view source.new) c)) }
 {
     let options = read_options(alloc, words)?;
@@ -60,8 +63,13 @@ pub fn open<T: Tree, I: Source>(
             return Err(why);
         }
     }
-    match read_patches(alloc, &options, tree, source) {
-        Ok(set) => Ok(Work { options, set }),
+    let mut strips = false;
+    match read_patches(alloc, &options, &mut strips, tree, source) {
+        Ok(set) => Ok(Work {
+            options,
+            strips,
+            set,
+        }),
         Err(why) => {
             drop(options);
             Err(why)
@@ -81,10 +89,11 @@ fn read_options(alloc: Global, words: &[String]) -> Result<Options, Why>
     }
 }
 
-/// The file patches of the patch text that the options name.
+/// The file patches of the patch text that the options name, and whether carriage returns were taken off that.
 fn read_patches<T: Tree, I: Source>(
     alloc: Global,
     options: &Options,
+    strips: &mut bool,
     tree: &mut T,
     source: &mut I,
 ) -> Result<PatchSet, Why>
@@ -94,11 +103,13 @@ fn read_patches<T: Tree, I: Source>(
     ensures unread { is_standard options.now.input ≡ false → source.new ≡ source.old }
     ensures read { OnOk result (is_standard options.now.input ≡ true → (left : List ℕ) → (I.view source.old).told ≡ Some left → (I.view source.new).told ≡ Some []) }
     ensures taken { TakesAtMost 268435457 (I.view source.old) (I.view source.new) }
-    ensures asked { IfOk result (λ set. (a : ScratchView) (c : SinkView) → IsAsked (plain_options options.now) set (world (T.view tree.old) a (I.view source.old) c)) }
+    ensures asked { IfOk result (λ set. (a : ScratchView) (c : SinkView) → IsAsked (plain_options options.now) strips.new set (world (T.view tree.old) a (I.view source.old) c)) }
     ensures refused { IfErr result (λ why. (a : ScratchView) (c : SinkView) → StopsEarly why (Ok (patch (plain_options options.now))) (world (T.view tree.old) a (I.view source.old) c) (world (T.view tree.new) a (I.view source.new) c)) }
 {
     let text = read_input(alloc, &options.input, options.dir.as_ref(), tree, source)?;
+    let had = has_return(&text);
     let set = read_clean(alloc, text, options)?;
+    *strips = strips_returns(options, had, &set);
     number_if(alloc, options, set, tree)
 }
 

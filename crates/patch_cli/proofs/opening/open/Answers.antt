@@ -14,7 +14,7 @@ returns-in-Err-read_patches-clause-opens g c = opens_both c.settle.ensures.opens
 pub returns-in-Ok-read_patches-clause-asked : goal.returns-in-Ok-read_patches-clause-asked
 returns-in-Ok-read_patches-clause-asked g c a b =
     asked_behind (g.T.Tree.view c.args.tree.now) (g.T.Tree.view c.settle.new.tree) (g.I.Source.view c.args.source.now) c.settle.ensures.opens
-    (plain_options c.in_ok-options.options) c.in-Ok-read_patches.set a b (c.in-Ok-read_patches.ensures.asked a b)
+    (plain_options c.in_ok-options.options) c.read_patches.new.strips c.in-Ok-read_patches.set a b (c.in-Ok-read_patches.ensures.asked a b)
 
 pub returns-in-Err-clause-refused : goal.returns-in-Err-clause-refused
 returns-in-Err-clause-refused g c = settle_stops c.in-Err.why (job_of (map string_bytes c.args.words.now)) (g.T.Tree.view c.args.tree.now) (g.T.Tree.view c.settle.new.tree) (g.I.Source.view c.args.source.now)
