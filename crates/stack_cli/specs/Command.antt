@@ -117,7 +117,7 @@ applied_in (Ok s) = s.applied
 abbrev pub on_op : StackOp → Files → Outcome
 on_op op f = outcome_with (next_file (stack_of f) f) (applied_in (stack_of f)) f (law.command read_patch (operation op) f)
 
--- what the words come to that ask for this
+-- what the words come to that ask for this. A push answers without a receipt, as its effects are more than those of its patch
 abbrev pub command : Result StackOp WordFault → Files → Outcome
 command (Ok op) f = on_op op f
 command (Err fault) f = refused (of_words fault)

@@ -10,11 +10,11 @@ use Rattle.patch_text.specs.Regions.{Region, region_of, regions_of}
 use Rattle.patch_set.specs.Asked.{ways_of}
 use Rattle.patch_set.specs.SetView.{SetView, IsRead, plain_patches}
 use Rattle.flip_patch.specs.Flipped.{flipped}
-use Rattle.split_recount.specs.Parts.{between, cuts_behind, parts, row_of}
+use Rattle.split_recount.specs.Parts.{between, cuts_behind, parts, row_of, rows_of}
 use Rattle.tool_words.specs.PlainJobs.{PlainSplitJob}
 use Rattle.hunk_core.proofs.TurnedLemmas.{reverse-map}
 use Rattle.whole_filters.specs.Flips.{flipped_in, spot_flipped}
-use Rattle.whole_filters.specs.Texts.{defaults, read_patches, patches_in, regions_in, Spot, spots_in, row_at, parts_in}
+use Rattle.whole_filters.specs.Texts.{defaults, read_patches, patches_in, regions_in, Spot, spots_in, row_at, rows_in, parts_in}
 
 -- a file patch of a set, as it is in the text
 abbrev pub spot : List ℕ → FilePatch → Spot
@@ -42,11 +42,17 @@ module _ (skip : Bool) (text : List ℕ) (v : SetView) (read : IsRead (defaults 
 
 -- ---- what is made of it
 
+pub rows-by : (j : PlainSplitJob) (text : List ℕ) (v : SetView) → IsRead (defaults j.skip_binary) text v → rows_of v ≡ rows_in j text
+rows-by j text v read =
+    rows-same v.text v.patches
+    ∙ ap (map (row_at v.text)) (sym (regions-by j.skip_binary text v read))
+    ∙ ap (λ (t : List ℕ). map (row_at t) (regions_in j.skip_binary text)) read.text
+
 pub parts-by : (j : PlainSplitJob) (text : List ℕ) (v : SetView) → IsRead (defaults j.skip_binary) text v → parts j.every v ≡ parts_in j text
 unfolding parts_in
 parts-by j text v read =
-    ap (λ (rows : List (ℕ × List ℕ)). if length v.text == 0 then [] else between 0 (cuts_behind j.every rows) (length v.text)) (rows-same v.text v.patches ∙ ap (map (row_at v.text)) (sym (regions-by j.skip_binary text v read)))
-    ∙ ap (λ (t : List ℕ). if length t == 0 then [] else between 0 (cuts_behind j.every (map (row_at t) (regions_in j.skip_binary text))) (length t)) read.text
+    ap (λ (rows : List (ℕ × List ℕ)). if length v.text == 0 then [] else between 0 (cuts_behind j.every rows) (length v.text)) (rows-by j text v read)
+    ∙ ap (λ (t : List ℕ). if length t == 0 then [] else between 0 (cuts_behind j.every (rows_in j text)) (length t)) read.text
 
 pub flipped-by : (text : List ℕ) (v : SetView) → IsRead (defaults false) text v → flipped v ≡ flipped_in text
 unfolding flipped flipped_in

@@ -6,6 +6,7 @@ pub mod Unwritten
 mod Recounting
 mod TurnedText
 mod PartNames
+mod NameLoops
 mod Parting
 mod OnePart
 mod SplitRun

@@ -16,9 +16,9 @@ use Rattle.whole_filters.specs.Parting.{IsMade, PutsPart}
 
 module _ (name bytes : List ℕ) where
   -- before the first call memory ran out
-  pub part-starved : (t : TreeView) (c : SinkView) → IsQuiet t → (s : Result (Unit {0}) FilterFault) → IsErrAnd s (λ x. x ≡ faults.Memory) → PutsPart (Put name bytes) (name ++ codes "\n") t t c c s
+  pub part-starved : (t : TreeView) (c : SinkView) → IsQuiet t → (s : Result (Unit {0}) FilterFault) → IsErrAnd s (λ x. x ≡ faults.Memory) → PutsPart (record { name = name; bytes = bytes }) t t c c s
   part-starved t c quiet (Ok x) is = absurd is
-  part-starved t c quiet (Err x) is = subst (λ (y : FilterFault). PutsPart (Put name bytes) (name ++ codes "\n") t t c c (Err y)) (sym is) (record {
+  part-starved t c quiet (Err x) is = subst (λ (y : FilterFault). PutsPart (record { name = name; bytes = bytes }) t t c c (Err y)) (sym is) (record {
     tree = passes_none t;
     sink = sink_passes_none c;
     since = λ f told at left. inl ((works_none t [] quiet).since f told at left);
@@ -28,7 +28,7 @@ module _ (name bytes : List ℕ) where
 
   module _ {R E : Type 0} {t u : TreeView} where
     -- the tree failed
-    pub part-failed : {x : E} (c : SinkView) → MakesEffect {R = R} {E = E} t u (Err x) (Put name bytes) → PutsPart (Put name bytes) (name ++ codes "\n") t u c c (Err faults.Tree)
+    pub part-failed : {x : E} (c : SinkView) → MakesEffect {R = R} {E = E} t u (Err x) (Put name bytes) → PutsPart (record { name = name; bytes = bytes }) t u c c (Err faults.Tree)
     part-failed c put = record {
       tree = put.run.passes;
       sink = sink_passes_none c;
@@ -42,7 +42,7 @@ module _ (name bytes : List ℕ) where
       made = record { quiet = put.quiet; becomes = subst (λ (q : List ℕ). Becomes t u (λ f. remove (insert f name bytes) q)) is becomes }
 
       module _ {O Q F : Type 0} {view : O → SinkView} {same : O → O → Type 0} {a b : O} where
-        pub part-said : {y : Q} (z : Unit {0}) → Puts {R = Q} {E = F} view same a b (Ok y) (name ++ codes "\n") → PutsPart (Put name bytes) (name ++ codes "\n") t u (view a) (view b) (Ok z)
+        pub part-said : {y : Q} (z : Unit {0}) → Puts {R = Q} {E = F} view same a b (Ok y) (name ++ codes "\n") → PutsPart (record { name = name; bytes = bytes }) t u (view a) (view b) (Ok z)
         part-said z line = record {
           tree = put.run.passes;
           sink = line.call.passes;
@@ -52,7 +52,7 @@ module _ (name bytes : List ℕ) where
         }
 
         -- the sink failed
-        pub part-unsaid : {y : F} → Puts {R = Q} {E = F} view same a b (Err y) (name ++ codes "\n") → PutsPart (Put name bytes) (name ++ codes "\n") t u (view a) (view b) (Err faults.Write)
+        pub part-unsaid : {y : F} → Puts {R = Q} {E = F} view same a b (Err y) (name ++ codes "\n") → PutsPart (record { name = name; bytes = bytes }) t u (view a) (view b) (Err faults.Write)
         part-unsaid line = record {
           tree = put.run.passes;
           sink = line.call.passes;

@@ -22,15 +22,15 @@ use Rattle.patch_set.specs.declared.fault.SetFault.{SetFault}
 use Rattle.patch_set.specs.declared.fault.SetFault.TheVariants as set
 use Rattle.patch_set.specs.Refusals.{refusal}
 use Rattle.patch_set.specs.SetView.{SetView, IsRead}
-use Rattle.filter_choice.specs.Selected.{numbered}
-use Rattle.split_recount.specs.Parts.{parts}
-use Rattle.whole_filters.specs.Texts.{defaults, parts_in}
+use Rattle.split_recount.specs.Parts.{parts, rows_of}
+use Rattle.whole_filters.specs.Texts.{defaults, parts_in, rows_in}
 use Rattle.whole_filters.specs.Sifting.{is_refusal, HasSetCause}
-use Rattle.whole_filters.specs.Parting.{ArePut, AreCutAt, PutsParts}
-use Rattle.whole_filters.specs.Splits.{IsSplit, SplitsText, SplitsBy, SplitFault, Cut, cut_of, cut_unless, split_outcome, HasReadCause, HasEarlyCause, Splits}
+use Rattle.whole_filters.specs.PartNames.{part_names}
+use Rattle.whole_filters.specs.Parting.{Part, named_parts, ArePut, AreCutAt, PutsParts}
+use Rattle.whole_filters.specs.Splits.{IsSplit, SplitsText, SplitsBy, SplitFault, cut_of, cut_unless, split_outcome, HasReadCause, HasEarlyCause, Splits}
 use Rattle.whole_filters.specs.declared.fault.FilterFault.{FilterFault}
 use Rattle.whole_filters.specs.declared.fault.FilterFault.TheVariants as faults
-use Rattle.whole_filters.proofs.ByText.{parts-by}
+use Rattle.whole_filters.proofs.ByText.{parts-by, rows-by}
 
 -- what holds of a fault holds of the answer that passes it on
 pub passed : {R : Type 0} (s : Result R FilterFault) (e : FilterFault) (P : FilterFault → Type 0) → IsErrAnd s (λ x. x ≡ e) → P e → IfErr s P
@@ -84,34 +84,34 @@ set-cause skip (set.Reserved line) text (inr refused) = (text, refused)
 
 -- ---- what is cut is told by the text
 
--- the text and the parts of a set
-abbrev seen : Bool → Result SetView FilterFault → Result Cut FilterFault
-seen every (Ok v) = Ok (v.text, parts every v)
-seen every (Err e) = Err e
+-- the parts of a set
+abbrev pub parts_of : PlainSplitJob → SetView → List Part
+parts_of j v = named_parts v.text (part_names j (rows_of v) (parts j.every v)) (parts j.every v)
 
-abbrev cut_into : List ℕ → List Span → Result Cut FilterFault
-cut_into text spans = Ok (text, spans)
+abbrev seen : PlainSplitJob → Result SetView FilterFault → Result (List Part) FilterFault
+seen j (Ok v) = Ok (parts_of j v)
+seen j (Err e) = Err e
 
-by-refusal : (j : PlainSplitJob) (r : Option SetFault) (text : List ℕ) (o : Result SetView FilterFault) → SplitsBy j.skip_binary r text o → cut_unless j r text ≡ seen j.every o
+abbrev cut_into : PlainSplitJob → List ℕ → List (ℕ × List ℕ) → List Span → Result (List Part) FilterFault
+cut_into j text rows spans = Ok (named_parts text (part_names j rows spans) spans)
+
+by-refusal : (j : PlainSplitJob) (r : Option SetFault) (text : List ℕ) (o : Result SetView FilterFault) → SplitsBy j.skip_binary r text o → cut_unless j r text ≡ seen j o
 by-refusal j None text o h =
-    ap (λ (l : List ℕ). cut_into l (parts_in j text)) (sym h.1.text)
-    ∙ ap (λ (ss : List Span). cut_into h.0.text ss) (sym (parts-by j text h.0 h.1))
-    ∙ sym (ap (seen j.every) h.2)
-by-refusal j (Some fault) text o h = sym (ap (seen j.every) h)
+    ap (λ (l : List ℕ). cut_into j l (rows_in j text) (parts_in j text)) (sym h.1.text)
+    ∙ ap (λ (rows : List (ℕ × List ℕ)). cut_into j h.0.text rows (parts_in j text)) (sym (rows-by j text h.0 h.1))
+    ∙ ap (λ (ss : List Span). cut_into j h.0.text (rows_of h.0) ss) (sym (parts-by j text h.0 h.1))
+    ∙ sym (ap (seen j) h.2)
+by-refusal j (Some fault) text o h = sym (ap (seen j) h)
 
-by-answer : (j : PlainSplitJob) (x : Result (List ℕ) InputFault) (o : Result SetView FilterFault) → SplitsText j.skip_binary x o → cut_of j x ≡ seen j.every o
+by-answer : (j : PlainSplitJob) (x : Result (List ℕ) InputFault) (o : Result SetView FilterFault) → SplitsText j.skip_binary x o → cut_of j x ≡ seen j o
 by-answer j (Ok text) o h = by-refusal j (refusal (defaults j.skip_binary) text) text o h
-by-answer j (Err fault) o h = sym (ap (seen j.every) h)
+by-answer j (Err fault) o h = sym (ap (seen j) h)
 
-split-is : (j : PlainSplitJob) (f : Files) (o : Result SetView FilterFault) → IsSplit j f o → split_outcome j f ≡ seen j.every o
+split-is : (j : PlainSplitJob) (f : Files) (o : Result SetView FilterFault) → IsSplit j f o → split_outcome j f ≡ seen j o
 unfolding split_outcome
 split-is j f o h = by-answer j (answer_of (get f j.input)) o h
 
 -- ---- the run
-
--- the parts of a set, each behind its number, from 1
-abbrev rows_of : PlainSplitJob → SetView → List (ℕ × Span)
-rows_of j v = numbered (parts j.every v)
 
 early : (b : Bool) (e : FilterFault) (j : PlainSplitJob) (f : Files) (t u : TreeView) (c : SinkView) → (b ≡ true → IsSplit j f (Err e)) → IsUntouched t u → SplitFault b e j f t u c c
 early true e j f t u c refused same = split-is j f (Err e) (refused refl)
@@ -158,10 +158,10 @@ module _ (j : PlainSplitJob) {t u : TreeView} (c : SinkView) (same : IsUntouched
     tidy-behind : IsTidy u w → IsTidy t w
     tidy-behind tidy f g told now q temp = tidy f g (same.told ∙ told) now q temp
 
-    put-behind : (f : Files) → Passes u w → ArePut j.input v.text (rows_of j v) f u w c d → ArePut j.input v.text (rows_of j v) f t w c d
+    put-behind : (f : Files) → Passes u w → ArePut (parts_of j v) f u w c d → ArePut (parts_of j v) f t w c d
     put-behind f passes put = record { files = put.files; leaves = leaves-behind _ passes put.leaves; out = put.out }
 
-    cut-behind : (e : FilterFault) (f : Files) (k : ℕ) → Passes u w → AreCutAt j.input v.text (rows_of j v) e f u w c d k → AreCutAt j.input v.text (rows_of j v) e f t w c d k
+    cut-behind : (e : FilterFault) (f : Files) (k : ℕ) → Passes u w → AreCutAt (parts_of j v) e f u w c d k → AreCutAt (parts_of j v) e f t w c d k
     cut-behind e f k passes cut = record {
       few = cut.few;
       files = cut.files;
@@ -173,13 +173,13 @@ module _ (j : PlainSplitJob) {t u : TreeView} (c : SinkView) (same : IsUntouched
       names = cut.names;
     }
 
-    pub splits : (r : Result (Unit {0}) FilterFault) → PutsParts j.input v.text (rows_of j v) u w c d r → Splits j t w c d r
+    pub splits : (r : Result (Unit {0}) FilterFault) → PutsParts (parts_of j v) u w c d r → Splits j t w c d r
     splits (Ok z) puts = record {
       tree = passes_both same.passes puts.tree;
       sink = puts.sink;
       quiet = puts.quiet;
       refused = tt;
-      answers = λ f told. ((v.text, parts j.every v), split-is j f (Ok v) (is f told), put-behind f puts.tree (puts.answers f (same.told ∙ told)));
+      answers = λ f told. (parts_of j v, split-is j f (Ok v) (is f told), put-behind f puts.tree (puts.answers f (same.told ∙ told)));
       tidy = tidy-behind puts.tidy;
       cause = tt;
     }
@@ -192,7 +192,7 @@ module _ (j : PlainSplitJob) {t u : TreeView} (c : SinkView) (same : IsUntouched
       sink = puts.sink;
       quiet = tt;
       refused = λ yes. absurd (false≢true yes);
-      answers = λ f told. let x = puts.answers f (same.told ∙ told) in inr ((v.text, parts j.every v), split-is j f (Ok v) (is f told), (x.0, cut-behind faults.Tree f x.0 puts.tree x.1));
+      answers = λ f told. let x = puts.answers f (same.told ∙ told) in inr (parts_of j v, split-is j f (Ok v) (is f told), (x.0, cut-behind faults.Tree f x.0 puts.tree x.1));
       tidy = tt;
       cause = rises_then t u w same.passes puts.cause;
     }
@@ -201,7 +201,7 @@ module _ (j : PlainSplitJob) {t u : TreeView} (c : SinkView) (same : IsUntouched
       sink = puts.sink;
       quiet = tt;
       refused = λ yes. absurd (false≢true yes);
-      answers = λ f told. let x = puts.answers f (same.told ∙ told) in inr ((v.text, parts j.every v), split-is j f (Ok v) (is f told), (x.0, cut-behind faults.Write f x.0 puts.tree x.1));
+      answers = λ f told. let x = puts.answers f (same.told ∙ told) in inr (parts_of j v, split-is j f (Ok v) (is f told), (x.0, cut-behind faults.Write f x.0 puts.tree x.1));
       tidy = tidy-behind puts.tidy;
       cause = puts.cause;
     }
@@ -210,7 +210,7 @@ module _ (j : PlainSplitJob) {t u : TreeView} (c : SinkView) (same : IsUntouched
       sink = puts.sink;
       quiet = tt;
       refused = λ yes. absurd (false≢true yes);
-      answers = λ f told. let x = puts.answers f (same.told ∙ told) in inr ((v.text, parts j.every v), split-is j f (Ok v) (is f told), (x.0, cut-behind faults.Memory f x.0 puts.tree x.1));
+      answers = λ f told. let x = puts.answers f (same.told ∙ told) in inr (parts_of j v, split-is j f (Ok v) (is f told), (x.0, cut-behind faults.Memory f x.0 puts.tree x.1));
       tidy = tidy-behind puts.tidy;
       cause = tt;
     }

@@ -5,5 +5,6 @@ pub mod Sifting
 pub mod Flips
 pub mod Patterns
 pub mod Opened
+pub mod PartNames
 pub mod Parting
 pub mod Splits

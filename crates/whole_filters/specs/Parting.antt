@@ -1,8 +1,7 @@
 -- How the parts of a text are put beside its file, one behind the other, and their names are written (manual page of `splitdiff`).
-use Rattle.std.specs.Prelude.{◌≡◌, ◌≢◌, ◌⊎◌, ℕ, ◌+◌, ◌-◌, ◌≤◌, List, ◌++◌, codes, length, map, take, replicate, None, Some, Result, Ok, Err, IfErr, OnOk}
+use Rattle.std.specs.Prelude.{◌≡◌, ◌≢◌, ◌⊎◌, ℕ, ◌+◌, ◌≤◌, List, [], ◌∷◌, ◌++◌, codes, length, map, take, None, Some, Result, Ok, Err, IfErr, OnOk}
 use Rattle.std.specs.List.{flat_map}
 use Rattle.line_list.specs.declared.Span.{Span}
-use Rattle.num_text.specs.Numbers.{decimal}
 use Rattle.hunk_core.specs.PlainHunk.{bytes_at}
 use Rattle.outside.specs.Files.{Files, SameLasting}
 use Rattle.outside.specs.TreeView.{TreeView, Passes, Rises}
@@ -15,57 +14,64 @@ use Rattle.patch_task.specs.Making.{IsTidy}
 use Rattle.whole_filters.specs.declared.fault.FilterFault.{FilterFault}
 use Rattle.whole_filters.specs.declared.fault.FilterFault.TheVariants as faults
 
--- a number in three digits, or in more where it has more
-abbrev pub three_digits : ℕ → List ℕ
-three_digits n = replicate (3 - length (decimal n)) 48 ++ decimal n
+-- a part: its name and its bytes
+pub record Part : Type 0 where
+  pub name : List ℕ
+  pub bytes : List ℕ
 
--- the name of the part with this number: the file's, `.part` and the number
-unfoldable pub part_name : List ℕ → ℕ → List ℕ
-part_name file n = file ++ (codes ".part" ++ three_digits n)
+-- where a part of a text lies, and its name
+abbrev pub part_of : List ℕ → List ℕ → Span → Part
+part_of text name span = record { name = name; bytes = bytes_at text span }
+
+-- parts of a text, each with its name
+unfoldable pub named_parts : List ℕ → List (List ℕ) → List Span → List Part
+named_parts text [] spans = []
+named_parts text (name ∷ names) [] = []
+named_parts text (name ∷ names) (span ∷ spans) = part_of text name span ∷ named_parts text names spans
 
 -- a part is put as it is
-abbrev pub part_put : List ℕ → List ℕ → ℕ × Span → Effect
-part_put file text row = Put (part_name file row.0) (bytes_at text row.1)
+abbrev pub part_put : Part → Effect
+part_put part = Put part.name part.bytes
 
 -- the line that says so
-abbrev pub part_line : List ℕ → ℕ × Span → List ℕ
-part_line file row = part_name file row.0 ++ codes "\n"
+abbrev pub part_line : Part → List ℕ
+part_line part = part.name ++ codes "\n"
 
 -- the lines of these parts
-abbrev pub part_lines : List ℕ → List (ℕ × Span) → List ℕ
-part_lines file rows = flat_map (part_line file) rows
+abbrev pub part_lines : List Part → List ℕ
+part_lines parts = flat_map part_line parts
 
 -- what puts them
-abbrev pub part_puts : List ℕ → List ℕ → List (ℕ × Span) → List Effect
-part_puts file text rows = map (part_put file text) rows
+abbrev pub part_puts : List Part → List Effect
+part_puts parts = map part_put parts
 
 -- nothing was put or written
 pub record IsNotBegun (t u : TreeView) (c d : SinkView) : Type 0 where
   pub tree : IsUntouched t u
   pub out : d ≡ c
 
--- these parts of a text are put, and their names are written
-pub record ArePut (file text : List ℕ) (rows : List (ℕ × Span)) (f : Files) (t u : TreeView) (c d : SinkView) : Type 0 where
-  pub files : u.told ≡ Some (after_all (part_puts file text rows) f)
+-- these parts are put, and their names are written
+pub record ArePut (parts : List Part) (f : Files) (t u : TreeView) (c d : SinkView) : Type 0 where
+  pub files : u.told ≡ Some (after_all (part_puts parts) f)
   -- each crash since the call began leaves the files after a first part of the puts
-  pub leaves : LeavesPrefix t u (part_puts file text rows)
-  pub out : Receives c d (part_lines file rows)
+  pub leaves : LeavesPrefix t u (part_puts parts)
+  pub out : Receives c d (part_lines parts)
 
 -- it holds what it held, these bytes and perhaps more, or tells nothing any more
 abbrev pub ReceivesFirst : SinkView → SinkView → List ℕ → Type 0
 ReceivesFirst c d bytes = (b : List ℕ) → c.told ≡ Some b → (d.told ≡ None) ⊎ ((more : List ℕ) × (d.told ≡ Some (b ++ (bytes ++ more))))
 
 -- the first k of them are put, and no name is written but theirs; of these the last alone may be left out or cut off
-pub record AreCutAt (file text : List ℕ) (rows : List (ℕ × Span)) (e : FilterFault) (f : Files) (t u : TreeView) (c d : SinkView) (k : ℕ) : Type 0 where
-  pub few : k ≤ length rows
-  pub files : (g : Files) → u.told ≡ Some g → SameLasting (after_all (part_puts file text (take k rows)) f) g
+pub record AreCutAt (parts : List Part) (e : FilterFault) (f : Files) (t u : TreeView) (c d : SinkView) (k : ℕ) : Type 0 where
+  pub few : k ≤ length parts
+  pub files : (g : Files) → u.told ≡ Some g → SameLasting (after_all (part_puts (take k parts)) f) g
   -- a temporary may be left by a failed call of the tree alone
-  pub exact : e ≢ faults.Tree → u.told ≡ Some (after_all (part_puts file text (take k rows)) f)
-  pub leaves : LeavesPrefix t u (part_puts file text rows)
-  pub out : ReceivesPart c d (part_lines file (take k rows))
+  pub exact : e ≢ faults.Tree → u.told ≡ Some (after_all (part_puts (take k parts)) f)
+  pub leaves : LeavesPrefix t u (part_puts parts)
+  pub out : ReceivesPart c d (part_lines (take k parts))
   pub said : ℕ
   pub near : k ≤ said + 1
-  pub names : ReceivesFirst c d (part_lines file (take said rows))
+  pub names : ReceivesFirst c d (part_lines (take said parts))
 
 -- unless the tree has failed no temporary is left that the call started
 abbrev pub TidyAfter : Result (Unit {0}) FilterFault → TreeView → TreeView → Type 0
@@ -106,18 +112,18 @@ PartFails faults.Write t u c d e line = IsUnsaid t u c d e line
 PartFails faults.Memory t u c d e line = IsNotBegun t u c d
 
 -- one part over a quiet tree
-pub record PutsPart (e : Effect) (line : List ℕ) (t u : TreeView) (c d : SinkView) (result : Result (Unit {0}) FilterFault) : Type 0 where
+pub record PutsPart (part : Part) (t u : TreeView) (c d : SinkView) (result : Result (Unit {0}) FilterFault) : Type 0 where
   pub tree : Passes t u
   pub sink : SinkPasses c d
-  pub since : LeavesEitherSince t u (after e)
-  pub ok : OnOk result (IsSaid t u c d e line)
-  pub err : IfErr result (λ fault. PartFails fault t u c d e line)
+  pub since : LeavesEitherSince t u (after (part_put part))
+  pub ok : OnOk result (IsSaid t u c d (part_put part) (part_line part))
+  pub err : IfErr result (λ fault. PartFails fault t u c d (part_put part) (part_line part))
 
 -- ---- all parts
 
-abbrev pub PartsAnswer : Result (Unit {0}) FilterFault → List ℕ → List ℕ → List (ℕ × Span) → Files → TreeView → TreeView → SinkView → SinkView → Type 0
-PartsAnswer (Ok done) file text rows f t u c d = ArePut file text rows f t u c d
-PartsAnswer (Err e) file text rows f t u c d = (k : ℕ) × AreCutAt file text rows e f t u c d k
+abbrev pub PartsAnswer : Result (Unit {0}) FilterFault → List Part → Files → TreeView → TreeView → SinkView → SinkView → Type 0
+PartsAnswer (Ok done) parts f t u c d = ArePut parts f t u c d
+PartsAnswer (Err e) parts f t u c d = (k : ℕ) × AreCutAt parts e f t u c d k
 
 -- a fault of putting or writing, or want of memory
 abbrev pub HasPutCause : FilterFault → TreeView → TreeView → SinkView → SinkView → Type 0
@@ -130,10 +136,10 @@ HasPutCause faults.Write t u c d = sink.Rises c d
 HasPutCause faults.Memory t u c d = Unit {0}
 
 -- these parts over a quiet tree
-pub record PutsParts (file text : List ℕ) (rows : List (ℕ × Span)) (t u : TreeView) (c d : SinkView) (result : Result (Unit {0}) FilterFault) : Type 0 where
+pub record PutsParts (parts : List Part) (t u : TreeView) (c d : SinkView) (result : Result (Unit {0}) FilterFault) : Type 0 where
   pub tree : Passes t u
   pub sink : SinkPasses c d
   pub quiet : OnOk result (IsQuiet u)
-  pub answers : (f : Files) → t.told ≡ Some f → PartsAnswer result file text rows f t u c d
+  pub answers : (f : Files) → t.told ≡ Some f → PartsAnswer result parts f t u c d
   pub tidy : TidyAfter result t u
   pub cause : IfErr result (λ e. HasPutCause e t u c d)

@@ -2,7 +2,6 @@
 use Rattle.std.specs.Prelude.{◌≡◌, ◌≢◌, ◌⊎◌, ℕ, List, Bool, true, false, Option, None, Some, Result, Ok, Err, IfErr, OnOk}
 use Rattle.std.specs.FinMap.{get}
 use Rattle.line_list.specs.Completed.{completed}
-use Rattle.line_list.specs.declared.Span.{Span}
 use Rattle.outside.specs.Files.{Files}
 use Rattle.outside.specs.TreeView.{TreeView, Passes, Rises}
 use Rattle.outside.specs.SinkView.{SinkView, SinkPasses}
@@ -15,30 +14,26 @@ use Rattle.run_answers.specs.Input.{answer_of}
 use Rattle.patch_set.specs.declared.fault.SetFault.{SetFault}
 use Rattle.patch_set.specs.Refusals.{refusal}
 use Rattle.patch_set.specs.SetView.{SetView, IsRead}
-use Rattle.filter_choice.specs.Selected.{numbered}
-use Rattle.whole_filters.specs.Texts.{defaults, parts_in}
+use Rattle.whole_filters.specs.Texts.{defaults, parts_in, rows_in}
 use Rattle.whole_filters.specs.Sifting.{is_refusal, HasSetCause}
-use Rattle.whole_filters.specs.Parting.{IsNotBegun, ArePut, AreCutAt, TidyAfter}
+use Rattle.whole_filters.specs.PartNames.{part_names}
+use Rattle.whole_filters.specs.Parting.{Part, named_parts, IsNotBegun, ArePut, AreCutAt, TidyAfter}
 use Rattle.whole_filters.specs.declared.fault.FilterFault.{FilterFault}
 use Rattle.whole_filters.specs.declared.fault.FilterFault.TheVariants as faults
 
 -- ---- the definition
 
--- a text with a line feed at its end, and its parts
-abbrev pub Cut : Type 0
-Cut = List ℕ × List Span
-
 -- a text without file patches is refused, unless it is empty
-abbrev pub cut_unless : PlainSplitJob → Option SetFault → List ℕ → Result Cut FilterFault
-cut_unless j None text = Ok (completed text, parts_in j text)
+abbrev pub cut_unless : PlainSplitJob → Option SetFault → List ℕ → Result (List Part) FilterFault
+cut_unless j None text = Ok (named_parts (completed text) (part_names j (rows_in j text) (parts_in j text)) (parts_in j text))
 cut_unless j (Some fault) text = Err (faults.Set fault)
 
-abbrev pub cut_of : PlainSplitJob → Result (List ℕ) InputFault → Result Cut FilterFault
+abbrev pub cut_of : PlainSplitJob → Result (List ℕ) InputFault → Result (List Part) FilterFault
 cut_of j (Ok text) = cut_unless j (refusal (defaults j.skip_binary) text) text
 cut_of j (Err fault) = Err (faults.Input fault)
 
--- what is cut into parts, or why nothing is
-unfoldable pub split_outcome : PlainSplitJob → Files → Result Cut FilterFault
+-- the parts that are put, or why none is
+unfoldable pub split_outcome : PlainSplitJob → Files → Result (List Part) FilterFault
 split_outcome j files = cut_of j (answer_of (get files j.input))
 
 -- ---- the set that is read
@@ -57,13 +52,13 @@ IsSplit j f o = SplitsText j.skip_binary (answer_of (get f j.input)) o
 
 -- ---- the run
 
--- the text is the command's, and its parts are numbered from 1
+-- the parts are the command's
 abbrev pub SplitFault : Bool → FilterFault → PlainSplitJob → Files → TreeView → TreeView → SinkView → SinkView → Type 0
 SplitFault true e j f t u c d = split_outcome j f ≡ Err e
-SplitFault false e j f t u c d = IsNotBegun t u c d ⊎ ((x : Cut) × (split_outcome j f ≡ Ok x) × ((k : ℕ) × AreCutAt j.input x.0 (numbered x.1) e f t u c d k))
+SplitFault false e j f t u c d = IsNotBegun t u c d ⊎ ((parts : List Part) × (split_outcome j f ≡ Ok parts) × ((k : ℕ) × AreCutAt parts e f t u c d k))
 
 abbrev pub SplitAnswers : Result (Unit {0}) FilterFault → PlainSplitJob → Files → TreeView → TreeView → SinkView → SinkView → Type 0
-SplitAnswers (Ok done) j f t u c d = (x : Cut) × (split_outcome j f ≡ Ok x) × ArePut j.input x.0 (numbered x.1) f t u c d
+SplitAnswers (Ok done) j f t u c d = (parts : List Part) × (split_outcome j f ≡ Ok parts) × ArePut parts f t u c d
 SplitAnswers (Err e) j f t u c d = SplitFault (is_refusal e) e j f t u c d
 
 -- what a fault says, whatever is told

@@ -62,6 +62,10 @@ all_of text r = slice_range text r.start r.end
 abbrev pub row_at : List ℕ → Region → ℕ × List ℕ
 row_at text r = (r.start, plain_name (header_of text r.header))
 
+-- the same of all file patches of a text
+abbrev pub rows_in : PlainSplitJob → List ℕ → List (ℕ × List ℕ)
+rows_in j text = map (row_at (completed text)) (regions_in j.skip_binary text)
+
 -- the parts of a text that is read; an empty one has none
 unfoldable pub parts_in : PlainSplitJob → List ℕ → List Span
-parts_in j text = if length (completed text) == 0 then [] else between 0 (cuts_behind j.every (map (row_at (completed text)) (regions_in j.skip_binary text))) (length (completed text))
+parts_in j text = if length (completed text) == 0 then [] else between 0 (cuts_behind j.every (rows_in j text)) (length (completed text))

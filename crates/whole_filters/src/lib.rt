@@ -5,6 +5,7 @@ mod counting;
 mod defaults;
 mod fault;
 mod flipping;
+mod naming;
 mod opening;
 mod patterns;
 mod splitting;

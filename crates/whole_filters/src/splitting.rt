@@ -1,29 +1,29 @@
-//! A file split into parts, which are put beside it.
-ghost use Rattle.std.specs.Prelude.{◌≡◌, ◌≤◌, ◌++◌, codes, false, length, true, IfErr, IfOk, Ok, Err, Some};
+//! A file split into parts, which are put beside it or into a directory.
+ghost use Rattle.std.specs.Prelude.{◌≡◌, ◌≤◌, All, ◌++◌, codes, false, length, true, IfErr, IfOk, Ok, Err, Some};
 ghost use Rattle.hunk_core.specs.PlainHunk.{bytes_at};
 ghost use Rattle.hunk_core.specs.Pieces.{AreInTurn};
 ghost use Rattle.outside.specs.Puts.{Puts};
 ghost use Rattle.outside.specs.Files.{Files, is_temp};
 ghost use Rattle.outside.specs.Calls.{IsUntouched};
 ghost use Rattle.outside.specs.Quiet.{IsQuiet};
-ghost use Rattle.outside.specs.Quiet.Effect.{Put};
 ghost use Rattle.tool_words.specs.PlainJobs.{plain_split_job};
 ghost use Rattle.patch_set.specs.SetView.{IsWhole};
-ghost use Rattle.split_recount.specs.Parts.{parts};
-ghost use Rattle.filter_choice.specs.Selected.{numbered};
+ghost use Rattle.split_recount.specs.Parts.{parts, rows_of};
 ghost use Rattle.whole_filters.specs.Sifting.{is_refusal};
-ghost use Rattle.whole_filters.specs.Parting.{PutsPart, PutsParts, part_name};
+ghost use Rattle.whole_filters.specs.PartNames.{part_names};
+ghost use Rattle.whole_filters.specs.Parting.{PutsPart, PutsParts, named_parts};
 ghost use Rattle.whole_filters.specs.Splits.{IsSplit, HasEarlyCause, Splits};
 
 use crate::defaults::read_plain;
 use crate::fault::FilterFault;
+use crate::naming::part_names;
 use line_list::Span;
 use outside::{Failed, Name, Sink, Tree, put_all};
 use patch_set::PatchSet;
 use replace_file::put_whole;
 use run_answers::read_file;
 use split_recount::split_parts;
-use std::alloc::{AllocError, Global};
+use std::alloc::Global;
 use tool_words::SplitJob;
 
 /// Carries out a command of `splitdiff`: puts the parts of the file, each with a name of its own, and writes their names. A text
@@ -40,7 +40,7 @@ pub fn run_split<T: Tree, O: Sink>(
 {
     match read_split(alloc, job, tree) {
         Ok(set) => {
-            let answer = put_set(alloc, &job.input, &set, job.every, tree, out);
+            let answer = put_set(alloc, job, &set, tree, out);
             drop(set);
             answer
         }
@@ -64,40 +64,61 @@ fn read_split<T: Tree>(alloc: Global, job: &SplitJob, tree: &mut T) -> Result<Pa
 /// Puts the parts of a set.
 fn put_set<T: Tree, O: Sink>(
     alloc: Global,
-    file: &Name,
+    job: &SplitJob,
     set: &PatchSet,
-    every: bool,
     tree: &mut T,
     out: &mut O,
 ) -> Result<(), FilterFault>
     requires quiet { IsQuiet (T.view tree.old) }
     requires whole { IsWhole set.now }
-    ensures puts { PutsParts file.now set.now.text (numbered (parts every set.now)) (T.view tree.old) (T.view tree.new) (O.view out.old) (O.view out.new) result }
+    ensures puts { PutsParts (named_parts set.now.text (part_names (plain_split_job job.now) (rows_of set.now) (parts job.now.every set.now)) (parts job.now.every set.now)) (T.view tree.old) (T.view tree.new) (O.view out.old) (O.view out.new) result }
     ensures rest { O.same_rest out.old out.new }
 {
-    match split_parts(alloc, set, every) {
-        Ok(parts) => put_parts(alloc, file, set.text(), &parts, tree, out),
+    match split_parts(alloc, set, job.every) {
+        Ok(parts) => put_named(alloc, job, set, &parts, tree, out),
         Err(_) => Err(FilterFault::Memory),
     }
 }
 
-/// Puts the parts in their order, each with its number from 1, and writes the name of each behind its put.
+/// Puts these parts of a set.
+fn put_named<T: Tree, O: Sink>(
+    alloc: Global,
+    job: &SplitJob,
+    set: &PatchSet,
+    parts: &[Span],
+    tree: &mut T,
+    out: &mut O,
+) -> Result<(), FilterFault>
+    requires quiet { IsQuiet (T.view tree.old) }
+    requires turn { AreInTurn 0 parts.now (length set.now.text) }
+    ensures puts { PutsParts (named_parts set.now.text (part_names (plain_split_job job.now) (rows_of set.now) parts.now) parts.now) (T.view tree.old) (T.view tree.new) (O.view out.old) (O.view out.new) result }
+    ensures rest { O.same_rest out.old out.new }
+{
+    match part_names(alloc, job, set, parts) {
+        Ok(names) => put_parts(alloc, set.text(), &names, parts, tree, out),
+        Err(_) => Err(FilterFault::Memory),
+    }
+}
+
+/// Puts the parts in their order, each with its name, and writes the name of each behind its put.
 fn put_parts<T: Tree, O: Sink>(
     alloc: Global,
-    file: &Name,
     text: &[u8],
+    names: &[Name],
     parts: &[Span],
     tree: &mut T,
     out: &mut O,
 ) -> Result<(), FilterFault>
     requires quiet { IsQuiet (T.view tree.old) }
     requires turn { AreInTurn 0 parts.now (length text.now) }
-    ensures puts { PutsParts file.now text.now (numbered parts.now) (T.view tree.old) (T.view tree.new) (O.view out.old) (O.view out.new) result }
+    requires names { length names.now ≡ length parts.now }
+    requires lasting { All (λ name. is_temp name ≡ false) names.now }
+    ensures puts { PutsParts (named_parts text.now names.now parts.now) (T.view tree.old) (T.view tree.new) (O.view out.old) (O.view out.new) result }
     ensures rest { O.same_rest out.old out.new }
 {
     for index in 0..parts.len() {
         let bytes = bytes_of(text, parts[index]);
-        put_part(alloc, file, index as u64 + 1, bytes, tree, out)?;
+        put_part(alloc, &names[index], bytes, tree, out)?;
     }
     Ok(())
 }
@@ -110,25 +131,24 @@ fn bytes_of(text: &[u8], part: Span) -> &[u8]
     &text[part.start as usize..part.end as usize]
 }
 
-/// Puts the part with this number, and then writes its name.
+/// Puts a part, and then writes its name.
 fn put_part<T: Tree, O: Sink>(
     alloc: Global,
-    file: &Name,
-    number: u64,
+    name: &Name,
     bytes: &[u8],
     tree: &mut T,
     out: &mut O,
 ) -> Result<(), FilterFault>
     requires quiet { IsQuiet (T.view tree.old) }
-    ensures puts { PutsPart (Put (part_name file.now number) bytes.now) (part_name file.now number ++ codes "\n") (T.view tree.old) (T.view tree.new) (O.view out.old) (O.view out.new) result }
+    requires lasting { is_temp name.now ≡ false }
+    ensures puts { PutsPart (record { name = name.now; bytes = bytes.now }) (T.view tree.old) (T.view tree.new) (O.view out.old) (O.view out.new) result }
     ensures rest { O.same_rest out.old out.new }
 {
-    let name = part_name(alloc, file, number)?;
     let temp = name.temporary(alloc)?;
-    let Ok(_) = put_whole(tree, &temp, &name, bytes) else {
+    let Ok(_) = put_whole(tree, &temp, name, bytes) else {
         return Err(FilterFault::Tree);
     };
-    let Ok(_) = put_line(out, &name) else {
+    let Ok(_) = put_line(out, name) else {
         return Err(FilterFault::Write);
     };
     Ok(())
@@ -139,13 +159,4 @@ fn put_line<O: Sink>(out: &mut O, name: &Name) -> Result<(), Failed>
 {
     put_all(out, name.text().as_bytes())?;
     put_all(out, b"\n")
-}
-
-/// The name of the part with this number.
-fn part_name(alloc: Global, file: &Name, number: u64) -> Result<Name, AllocError>
-    ensures name { IfOk result (λ name. name ≡ part_name file.now number) }
-    ensures lasting { IfOk result (λ name. is_temp name ≡ false) }
-{
-    let ending = format!(in alloc; ".part{number:03}")?;
-    file.followed_by(alloc, ending.as_str())
 }

@@ -1,19 +1,9 @@
-use Rattle.std.proofs.Common.{List, ℕ, ◌++◌, codes, Ok, Err, subst}
-use Rattle.outside.specs.Quiet.Effect.{Put}
-use Rattle.whole_filters.specs.declared.fault.FilterFault.TheVariants as faults
-use Rattle.whole_filters.specs.Parting.{PutsPart, part_name}
 use Rattle.whole_filters.proofs.OnePart.{part-starved, part-failed, part-said, part-unsaid}
 use Rattle.whole_filters.proofs.splitting.put_part.Goals as goal
 
-pub returns-in_err-name : goal.returns-in_err-name
-returns-in_err-name g c = record {
-  puts = part-starved (part_name c.args.file.now c.args.number) c.args.bytes.now _ _ c.requires.quiet c.from_residual.result c.from_residual.ensures.1;
-  rest = g.met.O.Sink.rest_none c.args.out.now;
-}
-
 pub returns-in_err-temp : goal.returns-in_err-temp
 returns-in_err-temp g c = record {
-  puts = part-starved (part_name c.args.file.now c.args.number) c.args.bytes.now _ _ c.requires.quiet c.from_residual-in_err-temp.result c.from_residual-in_err-temp.ensures.1;
+  puts = part-starved c.args.name.now c.args.bytes.now _ _ c.requires.quiet c.from_residual.result c.from_residual.ensures.1;
   rest = g.met.O.Sink.rest_none c.args.out.now;
 }
 
@@ -21,28 +11,25 @@ pub put_whole-requires-clause-temporary : goal.put_whole-requires-clause-tempora
 put_whole-requires-clause-temporary g c = c.in_ok-temp.ensures.temp
 
 pub put_whole-requires-clause-lasting : goal.put_whole-requires-clause-lasting
-put_whole-requires-clause-lasting g c = c.in_ok-name.ensures.lasting
+put_whole-requires-clause-lasting g c = c.requires.lasting
 
 pub put_whole-requires-clause-quiet : goal.put_whole-requires-clause-quiet
 put_whole-requires-clause-quiet g c = c.requires.quiet
 
 pub returns-in_default : goal.returns-in_default
 returns-in_default g c = record {
-  puts = subst (λ (n : List ℕ). PutsPart (Put n c.args.bytes.now) (n ++ codes "\n") (g.T.Tree.view c.args.tree.now) (g.T.Tree.view c.put_whole.new.tree) (g.O.Sink.view c.args.out.now) (g.O.Sink.view c.args.out.now) (Err faults.Tree)) c.in_ok-name.ensures.name
-      (part-failed c.in_ok-name.name c.args.bytes.now _ c.in_default.ensures.makes);
+  puts = part-failed c.args.name.now c.args.bytes.now _ c.in_default.ensures.makes;
   rest = g.met.O.Sink.rest_none c.args.out.now;
 }
 
 pub returns-in_default-put_line : goal.returns-in_default-put_line
 returns-in_default-put_line g c = record {
-  puts = subst (λ (n : List ℕ). PutsPart (Put n c.args.bytes.now) (n ++ codes "\n") (g.T.Tree.view c.args.tree.now) (g.T.Tree.view c.put_whole.new.tree) (g.O.Sink.view c.args.out.now) (g.O.Sink.view c.put_line.new.out) (Err faults.Write)) c.in_ok-name.ensures.name
-      (part-unsaid c.in_ok-name.name c.args.bytes.now c.in-Ok.ensures.makes c.in_ok-temp.temp c.in_ok-temp.ensures.text c.in-Ok.ensures.ok c.in_default-put_line.ensures);
+  puts = part-unsaid c.args.name.now c.args.bytes.now c.in-Ok.ensures.makes c.in_ok-temp.temp c.in_ok-temp.ensures.text c.in-Ok.ensures.ok c.in_default-put_line.ensures;
   rest = c.put_line.ensures.rest;
 }
 
 pub returns : goal.returns
 returns g c = record {
-  puts = subst (λ (n : List ℕ). PutsPart (Put n c.args.bytes.now) (n ++ codes "\n") (g.T.Tree.view c.args.tree.now) (g.T.Tree.view c.put_whole.new.tree) (g.O.Sink.view c.args.out.now) (g.O.Sink.view c.put_line.new.out) (Ok tt)) c.in_ok-name.ensures.name
-      (part-said c.in_ok-name.name c.args.bytes.now c.in-Ok.ensures.makes c.in_ok-temp.temp c.in_ok-temp.ensures.text c.in-Ok.ensures.ok tt c.in-Ok-put_line.ensures);
+  puts = part-said c.args.name.now c.args.bytes.now c.in-Ok.ensures.makes c.in_ok-temp.temp c.in_ok-temp.ensures.text c.in-Ok.ensures.ok tt c.in-Ok-put_line.ensures;
   rest = c.put_line.ensures.rest;
 }
