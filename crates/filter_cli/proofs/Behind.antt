@@ -1,5 +1,5 @@
 -- A run that goes on from a settled tree, as one from before it was settled.
-use Rattle.std.proofs.Common.{◌≡◌, inl, inr, ⊎_elim, ℕ, List, Bool, true, false, Some, Result, Ok, Err, refl, sym, ◌∙◌, arith}
+use Rattle.std.proofs.Common.{◌≡◌, inl, inr, ⊎_elim, ℕ, List, Bool, true, false, Result, Ok, Err, sym, ◌∙◌, arith}
 use Rattle.outside.specs.Files.{Files}
 use Rattle.outside.specs.TreeView.{TreeView, passes_both}
 use Rattle.outside.specs.FinderView.{FinderView}
@@ -15,10 +15,9 @@ use Rattle.run_answers.specs.Answers.{is_own}
 use Rattle.run_answers.specs.Moments.{Opens, FirstPart}
 use Rattle.run_answers.specs.Outcomes.{Outcome}
 use Rattle.run_answers.proofs.Opens.{opens_both, tidy_behind}
-use Rattle.filter_cli.specs.Command.{command}
 use Rattle.filter_cli.specs.Worlds.{World, world, Tells}
 use Rattle.filter_cli.specs.Causes.{HasCause}
-use Rattle.filter_cli.specs.Carries.{IsAnswer, Answers, IsAsAtEntry, BreaksOff, ByOutcome, Carries}
+use Rattle.filter_cli.specs.Carries.{IsAnswer, Answers, IsAsAtEntry, BreaksOff, Carries}
 use Rattle.filter_cli.proofs.Whole.{carries_does}
 
 module _ (job : Result PlainToolJob WordFault) (t v : TreeView) (h : FinderView) (a : SourceView) (c : SinkView) (opens : Opens t v) where

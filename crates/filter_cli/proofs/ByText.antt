@@ -4,6 +4,7 @@ use Rattle.std.specs.Prelude.{filter, if◌then◌else◌}
 use Rattle.std.specs.List.{flat_map, list_any, range_with_len, zip}
 use Rattle.std.proofs.lemmas.List.Concat.{flat_map-cons}
 use Rattle.hunk_core.specs.declared.Form.{Form}
+use Rattle.hunk_core.specs.PlainHunk.{bytes_at}
 use Rattle.hunk_core.proofs.ReadSteps.{bind_ok, ok_is}
 use Rattle.unified_form.specs.declared.skim.OldRange.{OldRange}
 use Rattle.file_patch.specs.declared.FilePatch.{FilePatch}
@@ -20,7 +21,8 @@ use Rattle.patch_set.specs.Spans.{IsPlaced, ArePlaced}
 use Rattle.patch_set.proofs.InBytes.{cut-bytes}
 use Rattle.patch_filters.specs.Digested.{digest_if_taken, digest_written, filtered_digest, olds_by}
 use Rattle.patch_filters.specs.Filtered.{chosen, filtered, pieces, region, text_if, written, written_bare, written_if_taken, is_taken_of}
-use Rattle.patch_filters.specs.Grepped.{found_text, grepped, hits_of, is_found}
+use Rattle.patch_filters.specs.Told.{ends_of, text_behind, told, told_if, told_of}
+use Rattle.patch_filters.specs.Grepped.{asked_text, found_text, found_told, grepped, hits_of, is_found, tells, told_found}
 use Rattle.filter_choice.specs.Kept.{is_kept, is_taken, kept}
 use Rattle.line_list.specs.Completed.{completed}
 use Rattle.patch_filters.specs.HunkLines.{first_line, hunk_lines, lines_from}
@@ -41,7 +43,7 @@ use Rattle.tool_words.specs.declared.jobs.GrepOut.TheVariants.{Names, Hunks, Fil
 use Rattle.whole_filters.specs.Opened.{IsOutlineOf}
 use Rattle.filter_cli.specs.Converting.{converted_in, form_refused, spot_converted}
 use Rattle.whole_filters.specs.Texts.{defaults, read_patches, patches_in, regions_in, Spot, spots_in}
-use Rattle.filter_cli.specs.Texts.{listed_in, spot_lines, spot_listed, spot_written, is_spot_taken, filtered_in, spot_found, grepped_in}
+use Rattle.filter_cli.specs.Texts.{listed_in, spot_lines, spot_listed, spot_written, is_spot_taken, filtered_in, spot_asked, spot_found, spot_told, grepped_in, told_at, told_in}
 use Rattle.whole_filters.proofs.ByText.{spot, patches-by, spots-by}
 
 -- ---- a list
@@ -100,10 +102,19 @@ module _ (text : List ℕ) (start before : ℕ) (p : FilePatch) (at : IsPlaced t
   list-same : (j : PlainListJob) (number : ℕ) → list_lines j text (number, p) ≡ spot_listed j text (number, spot text p)
   list-same j number = ap (λ (ls : List (List ℕ)). list_line j (number, patch_of text p) ++ text_if (j.shown.hunks, flat_map (λ line. line) ls)) (lines-same j.shown.hunk_label)
 
+  told-same : (j : PlainFilterJob) (n : ℕ) → told_if j text (n, p) ≡ spot_told j text (n, spot text p)
+  told-same j n = ap (λ (ts : List (List ℕ)). told_of j n (patch_of text p) (region text p) ts (bytes_at text p.span)) (cut-bytes text p.header p.hunk_spans.items p.span.end at.cut)
+
   found-same : (hit : List ℕ → Bool) (out : GrepOut) (j : PlainGrepJob) → found_text hit out j text p ≡ spot_found hit out j text (spot text p)
   found-same hit Names j = ap (λ (ls : List (List ℕ)). name_line j.shown None (patch_of text p) ++ text_if (j.shown.hunks, chosen (hits_of j.searched hit (change_of text p.change)) ls)) (lines-same j.shown.hunk_label)
   found-same hit Hunks j = ap (λ (ts : List (List ℕ)). region text p ++ chosen (hits_of j.searched hit (change_of text p.change)) ts) (cut-bytes text p.header p.hunk_spans.items p.span.end at.cut)
   found-same hit Files j = refl
+
+  asked-same : (hit : List ℕ → Bool) (j : PlainGrepJob) → asked_text hit j text p ≡ spot_asked hit j text (spot text p)
+  asked-same hit j =
+      ap (λ (t : List ℕ). if tells j then found_told hit j text p else t) (found-same hit j.output j)
+      ∙ ap (λ (ts : List (List ℕ)). if tells j then told_found j (hits_of j.searched hit (change_of text p.change)) (patch_of text p) (region text p) ts else spot_found hit j.output j text (spot text p))
+      (cut-bytes text p.header p.hunk_spans.items p.span.end at.cut)
 
 -- ---- what each filter writes of it
 
@@ -127,6 +138,20 @@ filtered-by j text v read =
     ∙ sym (flat-if (is_spot_taken j) (λ n. spot_written j v.text n.1) (numbered (map (spot v.text) v.patches)))
     ∙ ap (λ (ss : List Spot). flat_map (λ n. spot_written j v.text n.1) (filter (is_spot_taken j) (numbered ss))) (sym (spots-by j.select.skip_binary text v read))
     ∙ ap (λ (t : List ℕ). flat_map (λ n. spot_written j t n.1) (filter (is_spot_taken j) (numbered (spots_in j.select.skip_binary text)))) read.text
+
+ends-same : (text : List ℕ) (ps : List FilePatch) → ends_of ps ≡ map (λ s. s.0.end) (map (spot text) ps)
+ends-same text [] = refl
+ends-same text (p ∷ ps) = ap (λ (es : List ℕ). p.span.end ∷ es) (ends-same text ps)
+
+pub told-by : (j : PlainFilterJob) (text : List ℕ) (v : SetView) → IsRead (defaults j.select.skip_binary) text v → told j v ≡ told_in j text
+unfolding told told_in
+told-by j text v read =
+    let spots = map (spot v.text) v.patches in
+    ap (λ (t : List ℕ). t ++ text_behind j.verbose v.text (ends_of v.patches))
+    (numbered-same v.text (told_if j v.text) (spot_told j v.text) (λ n start before p at. told-same v.text start before p at j n) 0 0 0 v.patches read.spans)
+    ∙ ap (λ (es : List ℕ). flat_map (spot_told j v.text) (zip (range_with_len 0 (length spots)) spots) ++ text_behind j.verbose v.text es) (ends-same v.text v.patches)
+    ∙ ap (told_at j v.text) (sym (spots-by j.select.skip_binary text v read))
+    ∙ ap (λ (t : List ℕ). told_at j t (spots_in j.select.skip_binary text)) read.text
 
 -- the same of a digest
 module _ (j : PlainFilterJob) (text : List ℕ) where
@@ -184,12 +209,12 @@ digested-by j text v read =
 pub grepped-by : (hit : List ℕ → Bool) (j : PlainGrepJob) (text : List ℕ) (v : SetView) → IsRead (defaults j.select.skip_binary) text v → grepped hit j v ≡ grepped_in hit j text
 unfolding grepped grepped_in
 grepped-by hit j text v read =
-    flat-if (λ p. is_found hit j (patch_of v.text p)) (found_text hit j.output j v.text) v.patches
-    ∙ all-same v.text (λ p. cond (is_found hit j (patch_of v.text p)) (found_text hit j.output j v.text p) []) (λ s. cond (is_found hit j s.1) (spot_found hit j.output j v.text s) [])
-    (λ start before p at. ap (λ (t : List ℕ). cond (is_found hit j (patch_of v.text p)) t []) (found-same v.text start before p at hit j.output j)) 0 0 v.patches read.spans
-    ∙ sym (flat-if (λ (s : Spot). is_found hit j s.1) (spot_found hit j.output j v.text) (map (spot v.text) v.patches))
-    ∙ ap (λ (ss : List Spot). flat_map (spot_found hit j.output j v.text) (filter (λ s. is_found hit j s.1) ss)) (sym (spots-by j.select.skip_binary text v read))
-    ∙ ap (λ (t : List ℕ). flat_map (spot_found hit j.output j t) (filter (λ s. is_found hit j s.1) (spots_in j.select.skip_binary text))) read.text
+    flat-if (λ p. is_found hit j (patch_of v.text p)) (asked_text hit j v.text) v.patches
+    ∙ all-same v.text (λ p. cond (is_found hit j (patch_of v.text p)) (asked_text hit j v.text p) []) (λ s. cond (is_found hit j s.1) (spot_asked hit j v.text s) [])
+    (λ start before p at. ap (λ (t : List ℕ). cond (is_found hit j (patch_of v.text p)) t []) (asked-same v.text start before p at hit j)) 0 0 v.patches read.spans
+    ∙ sym (flat-if (λ (s : Spot). is_found hit j s.1) (spot_asked hit j v.text) (map (spot v.text) v.patches))
+    ∙ ap (λ (ss : List Spot). flat_map (spot_asked hit j v.text) (filter (λ s. is_found hit j s.1) ss)) (sym (spots-by j.select.skip_binary text v read))
+    ∙ ap (λ (t : List ℕ). flat_map (spot_asked hit j t) (filter (λ s. is_found hit j s.1) (spots_in j.select.skip_binary text))) read.text
 
 pub form-by : (form : Form) (j : PlainFilterJob) (text : List ℕ) (v : SetView) → IsRead (defaults j.select.skip_binary) text v → form_refusal form (left_patches j (plain_patches v)) ≡ form_refused form j text
 form-by form j text v read = ap (λ (ps : List PlainPatch). form_refusal form (left_patches j ps)) (sym (patches-by j.select.skip_binary text v read))

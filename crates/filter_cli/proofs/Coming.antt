@@ -12,15 +12,16 @@ use Rattle.patch_set.specs.SetView.{SetView, IsRead}
 use Rattle.filter_choice.specs.Outlined.{outlined}
 use Rattle.patch_filters.specs.Listed.{asks_hunks, listed, listed_whole}
 use Rattle.patch_filters.specs.Digested.{filtered_digest}
+use Rattle.patch_filters.specs.Told.{told}
 use Rattle.patch_filters.specs.Grepped.{grepped}
 use Rattle.whole_filters.specs.Texts.{defaults, patches_in}
-use Rattle.filter_cli.specs.Texts.{filtered_in, grepped_in, listed_in}
+use Rattle.filter_cli.specs.Texts.{filtered_in, grepped_in, listed_in, told_in}
 use Rattle.whole_filters.specs.Outcomes.{Outcome, given}
-use Rattle.filter_cli.specs.Outcomes.{unless_refused, outcome_by, list_with, filter_with, grep_with, list_outcome, filter_outcome, grep_outcome}
+use Rattle.filter_cli.specs.Outcomes.{unless_refused, outcome_by, list_with, filter_with, grep_with, list_outcome, filter_outcome, grep_outcome, told_outcome}
 use Rattle.whole_filters.specs.declared.fault.FilterFault.TheVariants as faults
 use Rattle.whole_filters.specs.Opened.{IsDigestIn, IsOutlineOf, IsSet}
 use Rattle.whole_filters.proofs.ByText.{patches-by}
-use Rattle.filter_cli.proofs.ByText.{listed-by, whole-by, digested-by, grepped-by}
+use Rattle.filter_cli.proofs.ByText.{listed-by, whole-by, digested-by, grepped-by, told-by}
 
 -- the bytes that are written of what is read from the text, unless that is refused
 abbrev pub ComesBy : {V : Type 0} → (Bool → List ℕ → V → Type 0) → Bool → Option SetFault → (V → List ℕ) → List ℕ → Outcome → Type 0
@@ -65,6 +66,11 @@ pub filtered-is : (j : PlainFilterJob) (f : Files) (left : List ℕ) (o : Outcom
 unfolding filter_outcome
 filtered-is j f left = comes-is IsDigestIn (λ s v. filtered_digest (filter_with j s) v) (λ s text. filtered_in (filter_with j s) text)
     (λ s text v read. digested-by (filter_with j s) text v read) (given j.input j.select f left)
+
+pub told-is : (j : PlainFilterJob) (f : Files) (left : List ℕ) (o : Outcome) → Comes IsSet (λ s v. told (filter_with j s) v) (given j.input j.select f left) o → o ≡ told_outcome j f left
+unfolding told_outcome
+told-is j f left = comes-is IsSet (λ s v. told (filter_with j s) v) (λ s text. told_in (filter_with j s) text)
+    (λ s text v read. told-by (filter_with j s) text v read) (given j.input j.select f left)
 
 pub grepped-is : (hit : List ℕ → List ℕ → Bool) (j : PlainGrepJob) (f : Files) (left : List ℕ) (o : Outcome) → Comes IsSet (λ s v. grepped (hit j.pattern) (grep_with j s) v) (given j.input j.select f left) o → o ≡ grep_outcome hit j f left
 unfolding grep_outcome

@@ -1,13 +1,12 @@
 -- A run of `filterdiff` with a form.
-use Rattle.std.proofs.Common.{◌≡◌, inl, inr, ℕ, true, List, Option, None, Some, Result, Ok, Err, refl, sym, ◌∙◌, ap, subst}
+use Rattle.std.proofs.Common.{◌≡◌, inl, inr, ℕ, true, List, Option, Some, Result, Ok, Err, refl, sym, ◌∙◌, ap, subst}
 use Rattle.hunk_core.specs.declared.Form.{Form}
 use Rattle.outside.specs.Files.{Files}
 use Rattle.outside.specs.FinderView.{FinderView, FinderPasses}
 use Rattle.outside.specs.SinkView.{SinkView, SinkPasses, sink_passes_none}
 use Rattle.outside.specs.Quiet.{IsQuiet}
-use Rattle.patch_options.specs.declared.options.WordFault.{WordFault}
 use Rattle.run_answers.specs.Input.{IsStandard}
-use Rattle.tool_words.specs.PlainJobs.{PlainFilterJob, PlainToolJob}
+use Rattle.tool_words.specs.PlainJobs.{PlainFilterJob}
 use Rattle.tool_words.specs.PlainJobs.PlainToolJob.{filter_job}
 use Rattle.format_convert.specs.declared.fault.ConvertFault.{ConvertFault}
 use Rattle.format_convert.specs.declared.fault.ConvertFault.TheVariants as convert
@@ -16,10 +15,9 @@ use Rattle.filter_cli.specs.declared.form_fault.FormFault.TheVariants.{Filter, N
 use Rattle.filter_cli.specs.Converting.{FormOutcome, Forms, IsConverted, Refuses, as_form, of_convert, styled_convert}
 use Rattle.whole_filters.specs.Outcomes as outcomes
 use Rattle.whole_filters.specs.Sifting.{HasTextCause}
-use Rattle.run_answers.specs.declared.why.Why.{Why}
 use Rattle.run_answers.specs.declared.why.Why.TheVariants as whys
 use Rattle.run_answers.specs.Answers.{is_own}
-use Rattle.run_answers.specs.Outcomes.{Outcome, refused}
+use Rattle.run_answers.specs.Outcomes.{refused}
 use Rattle.run_answers.proofs.Opens.{opens_untouched, tidy_same}
 use Rattle.filter_cli.specs.Causes.{HasCause}
 use Rattle.filter_cli.specs.Command.{formed, in_form, of_form, why_formed, written}

@@ -1,17 +1,14 @@
 -- A run of a filter that writes one text and leaves the tree.
-use Rattle.std.proofs.Common.{◌≡◌, ◌⊎◌, inl, inr, ⊎_elim, ℕ, zero, List, [], Bool, true, false, Some, Result, Ok, Err, refl, sym, ◌∙◌, ap, subst, arith}
+use Rattle.std.proofs.Common.{◌≡◌, inl, inr, ⊎_elim, ℕ, zero, List, Bool, true, false, Some, Result, Ok, Err, refl, sym, ◌∙◌, ap, subst, arith}
 use Rattle.std.proofs.lemmas.Bool.{false≢true}
 use Rattle.std.proofs.lemmas.List.{append-nil}
 use Rattle.std.proofs.lemmas.Option.{same_Some}
 use Rattle.outside.specs.Files.{Files, SameLasting, lasting-same}
-use Rattle.outside.specs.TreeView.{TreeView}
 use Rattle.outside.specs.FinderView.{FinderView, FinderPasses}
-use Rattle.outside.specs.SourceView.{SourceView}
 use Rattle.outside.specs.SinkView.{SinkView, Receives, ReceivesPart}
-use Rattle.outside.specs.Quiet.{IsQuiet, Effect, after_all}
+use Rattle.outside.specs.Quiet.{IsQuiet}
 use Rattle.outside.specs.Calls.{IsUntouched}
 use Rattle.patch_options.specs.declared.options.Input.{Input}
-use Rattle.patch_options.specs.declared.options.WordFault.{WordFault}
 use Rattle.tool_words.specs.PlainJobs.{PlainSelect, PlainToolJob}
 use Rattle.run_answers.specs.declared.fault.InputFault.TheVariants as input
 use Rattle.run_answers.specs.Input.{IsStandard}
@@ -23,14 +20,14 @@ use Rattle.whole_filters.specs.Outcomes as outcomes
 use Rattle.whole_filters.specs.Sifting.{IsTold, Sifts, is_refusal, AnswersFault}
 use Rattle.whole_filters.specs.Sifting as sifting
 use Rattle.run_answers.specs.declared.why.Why.{Why}
-use Rattle.run_answers.specs.declared.why.Why.TheVariants.{Done, TreeFault}
+use Rattle.run_answers.specs.declared.why.Why.TheVariants.{Done}
 use Rattle.run_answers.specs.Answers.{is_own, is_early}
 use Rattle.run_answers.specs.Moments.{FirstPart}
-use Rattle.run_answers.specs.Outcomes.{Outcome, refused}
+use Rattle.run_answers.specs.Outcomes.{Outcome}
 use Rattle.run_answers.proofs.Opens.{opens_untouched, tidy_same}
-use Rattle.filter_cli.specs.Jobs.{IsFromSource, NamesFile, MayFault, MayBeRefused, ReadsSource}
+use Rattle.filter_cli.specs.Jobs.{IsFromSource, NamesFile, MayFault, MayBeRefused}
 use Rattle.filter_cli.specs.Command.{IsOutcome, command, of_filter, why_by, written}
-use Rattle.filter_cli.specs.Worlds.{World, world, Tells}
+use Rattle.filter_cli.specs.Worlds.{World, Tells}
 use Rattle.filter_cli.specs.Causes.{HasCause}
 use Rattle.filter_cli.specs.Carries.{IsAnswer, Answers, IsAsAtEntry, BreaksOff, ByOutcome, Carries}
 use Rattle.filter_cli.proofs.Whole.{carries_does, refused_so}

@@ -1,9 +1,7 @@
 -- The filters that write one text, each as its words in two crates agree.
-use Rattle.std.proofs.Common.{◌≡◌, ◌⊎◌, inl, inr, ⊎_elim, ℕ, List, [], Bool, false, Option, None, Result, Ok, Err, refl, ap, sym, ◌∙◌}
+use Rattle.std.proofs.Common.{◌≡◌, inl, inr, ⊎_elim, ℕ, List, false, Option, None, Result, ap, sym, ◌∙◌}
 use Rattle.hunk_core.specs.declared.Form.{Form}
-use Rattle.outside.specs.Files.{Files}
 use Rattle.outside.specs.FinderView.{FinderView}
-use Rattle.outside.specs.Quiet.{Effect}
 use Rattle.patch_options.specs.declared.options.Input.{Input}
 use Rattle.patch_options.specs.declared.options.Input.TheVariants.{Standard, File}
 use Rattle.run_answers.specs.Input.{IsFile, IsStandard}
@@ -11,7 +9,7 @@ use Rattle.tool_words.specs.PlainJobs.{PlainListJob, PlainFilterJob, PlainGrepJo
 use Rattle.tool_words.specs.PlainJobs.PlainToolJob.{list_job, filter_job, grep_job, recount_job, flip_job}
 use Rattle.whole_filters.specs.declared.fault.FilterFault.{FilterFault}
 use Rattle.whole_filters.specs.Outcomes.{IsOutcomeOf, recount_outcome, no_selection}
-use Rattle.filter_cli.specs.Outcomes.{IsGrepped, list_outcome, grep_outcome, styled_filter}
+use Rattle.filter_cli.specs.Outcomes.{IsGrepped, list_outcome, styled_filter}
 use Rattle.whole_filters.specs.Flips.{HasFlipCause, flip_outcome}
 use Rattle.whole_filters.specs.Sifting.{HasTextCause, HasCountCause}
 use Rattle.filter_cli.specs.Command.{in_form, written}

@@ -1,50 +1,46 @@
 -- A run of `splitdiff`.
-use Rattle.std.proofs.Common.{◌≡◌, ◌≢◌, ◌⊎◌, inl, inr, ⊎_elim, ℕ, zero, ◌+◌, ◌≤◌, List, [], ◌++◌, length, map, take, drop, Bool, true, false, Some, Result, Ok, Err, refl, sym, ◌∙◌, ap, subst, arith}
-use Rattle.std.specs.List.{flat_map}
+use Rattle.std.proofs.Common.{◌≡◌, inl, inr, ⊎_elim, ℕ, zero, ◌≤◌, List, ◌++◌, length, take, drop, Bool, true, false, Some, Result, Ok, Err, refl, sym, ◌∙◌, ap, subst, arith}
 use Rattle.std.proofs.lemmas.Bool.{false≢true}
 use Rattle.std.proofs.lemmas.List.Concat.{flat_map-append}
 use Rattle.std.proofs.lemmas.List.{length-map, take-append-drop, take-map}
 use Rattle.std.proofs.lemmas.Option.{same_Some}
-use Rattle.line_list.specs.declared.Span.{Span}
 use Rattle.outside.specs.Files.{Files, SameLasting}
 use Rattle.outside.specs.TreeView.{TreeView}
 use Rattle.outside.specs.FinderView.{FinderView, finder_passes_none}
 use Rattle.outside.specs.SourceView.{SourceView, source_passes_none}
 use Rattle.outside.specs.SinkView.{SinkView, ReceivesPart}
-use Rattle.outside.specs.Quiet.{IsQuiet, TellsPrefix, after_all}
+use Rattle.outside.specs.Quiet.{TellsPrefix, after_all}
 use Rattle.outside.proofs.Writing.{part_longer}
 use Rattle.tool_words.specs.PlainJobs.{PlainSplitJob}
 use Rattle.tool_words.specs.PlainJobs.PlainToolJob.{split_job}
 use Rattle.run_answers.specs.declared.fault.InputFault.TheVariants as input
 use Rattle.patch_set.specs.declared.fault.SetFault.TheVariants as set
 use Rattle.patch_task.specs.Making.{IsTidy}
-use Rattle.filter_choice.specs.Selected.{numbered}
 use Rattle.whole_filters.specs.declared.fault.FilterFault.{FilterFault}
 use Rattle.whole_filters.specs.declared.fault.FilterFault.TheVariants as faults
 use Rattle.whole_filters.specs.Sifting.{is_refusal}
-use Rattle.whole_filters.specs.Parting.{AreCutAt, ArePut, IsNotBegun, TidyAfter, part_line, part_lines, part_put, part_puts}
-use Rattle.whole_filters.specs.Splits.{Cut, HasSplitCause, SplitFault, Splits, split_outcome}
-use Rattle.run_answers.specs.declared.why.Why.{Why}
-use Rattle.run_answers.specs.declared.why.Why.TheVariants.{Done, TreeFault}
-use Rattle.run_answers.specs.Answers.{is_fault, is_own, is_early}
+use Rattle.whole_filters.specs.Parting.{Part, AreCutAt, ArePut, IsNotBegun, TidyAfter, part_line, part_lines, part_put, part_puts}
+use Rattle.whole_filters.specs.Splits.{HasSplitCause, SplitFault, Splits, split_outcome}
+use Rattle.run_answers.specs.declared.why.Why.TheVariants.{Done}
+use Rattle.run_answers.specs.Answers.{is_fault, is_early}
 use Rattle.run_answers.specs.Moments.{FirstPart, LeavesAllowed}
 use Rattle.run_answers.specs.Outcomes.{Outcome}
 use Rattle.run_answers.proofs.Opens.{opens_untouched}
 use Rattle.filter_cli.specs.Command.{command, of_filter, parted, why_by}
 use Rattle.filter_cli.specs.Worlds.{World, world}
 use Rattle.filter_cli.specs.Causes.{HasCause}
-use Rattle.filter_cli.specs.Carries.{IsAnswer, Answers, IsAsAtEntry, IsCutAt, BreaksOff, ByOutcome, Carries}
+use Rattle.filter_cli.specs.Carries.{IsAnswer, Answers, IsAsAtEntry, BreaksOff, ByOutcome, Carries}
 use Rattle.filter_cli.proofs.Whole.{carries_does, refused_so, nothing_yet}
 use Rattle.filter_cli.proofs.Sifted.{own-is, never-done, set-cause}
 
 -- ---- a first part of the names that are written
-lines-front : (file : List ℕ) (rows : List (ℕ × Span)) (k : ℕ) → part_lines file (take k rows) ++ part_lines file (drop k rows) ≡ part_lines file rows
-lines-front file rows k =
-    sym (flat_map-append (part_line file) (take k rows) (drop k rows))
-    ∙ ap (λ (l : List (ℕ × Span)). part_lines file l) (take-append-drop k rows)
+lines-front : (parts : List Part) (k : ℕ) → part_lines (take k parts) ++ part_lines (drop k parts) ≡ part_lines parts
+lines-front parts k =
+    sym (flat_map-append part_line (take k parts) (drop k parts))
+    ∙ ap (λ (l : List Part). part_lines l) (take-append-drop k parts)
 
-said-part : (c d : SinkView) (file : List ℕ) (rows : List (ℕ × Span)) (k : ℕ) → ReceivesPart c d (part_lines file (take k rows)) → ReceivesPart c d (part_lines file rows)
-said-part c d file rows k part = subst (λ (l : List ℕ). ReceivesPart c d l) (lines-front file rows k) (part_longer c d (part_lines file (take k rows)) (part_lines file (drop k rows)) part)
+said-part : (c d : SinkView) (parts : List Part) (k : ℕ) → ReceivesPart c d (part_lines (take k parts)) → ReceivesPart c d (part_lines parts)
+said-part c d parts k part = subst (λ (l : List ℕ). ReceivesPart c d l) (lines-front parts k) (part_longer c d (part_lines (take k parts)) (part_lines (drop k parts)) part)
 
 module _ (j : PlainSplitJob) (h : FinderView) (a : SourceView) (t w : TreeView) (c d : SinkView) where
   abbrev before : World
@@ -105,35 +101,34 @@ module _ (j : PlainSplitJob) (h : FinderView) (a : SourceView) (t w : TreeView) 
     come = command h.hit (Ok (split_job j)) f left
 
     -- some of the parts are put
-    module _ (x : Cut) (is : split_outcome j f ≡ Ok x) where
-      comes : parted j.input (Ok x) ≡ come
-      comes = ap (λ (o : Result Cut FilterFault). parted j.input o) (sym is)
+    module _ (x : List Part) (is : split_outcome j f ≡ Ok x) where
+      comes : parted (Ok x) ≡ come
+      comes = ap (λ (o : Result (List Part) FilterFault). parted o) (sym is)
 
-      puts-first : (k : ℕ) → ((g : Files) → w.told ≡ Some g → SameLasting (after_all (part_puts j.input x.0 (take k (numbered x.1))) f) g) → k ≤ length (numbered x.1)
-          → TellsPrefix t w (part_puts j.input x.0 (numbered x.1))
+      puts-first : (k : ℕ) → ((g : Files) → w.told ≡ Some g → SameLasting (after_all (part_puts (take k x)) f) g) → k ≤ length x
+          → TellsPrefix t w (part_puts x)
       puts-first k files few g0 g was now =
-          let rows = numbered x.1 in
-          let same : SameLasting (after_all (part_puts j.input x.0 (take k rows)) g0) g = subst (λ (y : Files). SameLasting (after_all (part_puts j.input x.0 (take k rows)) y) g) (same_Some _ _ (sym told ∙ was)) (files g now) in (
+          let same : SameLasting (after_all (part_puts (take k x)) g0) g = subst (λ (y : Files). SameLasting (after_all (part_puts (take k x)) y) g) (same_Some _ _ (sym told ∙ was)) (files g now) in (
             k,
-            subst (λ (n : ℕ). k ≤ n) (sym (length-map rows (part_put j.input x.0))) few,
-            subst (λ es. SameLasting (after_all es g0) g) (sym (take-map (part_put j.input x.0) k rows)) same,
+            subst (λ (n : ℕ). k ≤ n) (sym (length-map x part_put)) few,
+            subst (λ es. SameLasting (after_all es g0) g) (sym (take-map part_put k x)) same,
           )
 
-      cut-first : (e : FilterFault) (k : ℕ) → AreCutAt j.input x.0 (numbered x.1) e f t w c d k → FirstPart t w c d (parted j.input (Ok x)).effects (parted j.input (Ok x)).text
-      cut-first e k cut = record { tells = puts-first k cut.files cut.few; said = said-part c d j.input (numbered x.1) k cut.out }
+      cut-first : (e : FilterFault) (k : ℕ) → AreCutAt x e f t w c d k → FirstPart t w c d (parted (Ok x)).effects (parted (Ok x)).text
+      cut-first e k cut = record { tells = puts-first k cut.files cut.few; said = said-part c d x k cut.out }
 
-      put-all : ArePut j.input x.0 (numbered x.1) f t w c d → IsAnswer Done f before behind (parted j.input (Ok x))
+      put-all : ArePut x f t w c d → IsAnswer Done f before behind (parted (Ok x))
       put-all put = record { is = refl; text = put.out; files = λ same. put.files }
 
     split-answers : (b : Bool) (e : FilterFault) → (b ≡ true → IsNotBegun t w c d) → SplitFault b e j f t w c d → ByOutcome (Ok (split_job j)) before f left (Answers b (of_filter e) f before behind)
     split-answers true e none is = (
-      parted j.input (Err e),
-      inl (ap (λ (o : Result Cut FilterFault). parted j.input o) (sym is)),
+      parted (Err e),
+      inl (ap (λ (o : Result (List Part) FilterFault). parted o) (sym is)),
       refused_so (Ok (split_job j)) before behind (not-begun (none refl)) (of_filter e) f,
     )
     split-answers false e none fault = ⊎_elim
         (λ not. (come, inl refl, nothing_yet (Ok (split_job j)) before behind (not-begun not) come))
-        (λ (x, is, (k, cut)). (parted j.input (Ok x), inl (comes x is), cut-first x is e k cut))
+        (λ (x, is, (k, cut)). (parted (Ok x), inl (comes x is), cut-first x is e k cut))
         fault
 
     leaves-none : IsNotBegun t w c d → LeavesAllowed t w f come.effects
@@ -183,7 +178,7 @@ module _ (j : PlainSplitJob) (h : FinderView) (a : SourceView) (t w : TreeView) 
     taken = λ left told. (zero, omega arith, told);
     answers = λ f left told.
         let (cut, is, put) = x.answers f (told.files tt) in
-        (parted j.input (Ok cut), inl (comes f left (told.files tt) cut is), put-all f left (told.files tt) cut is put);
+        (parted (Ok cut), inl (comes f left (told.files tt) cut is), put-all f left (told.files tt) cut is put);
     images = λ f left told.
         let (cut, is, put) = x.answers f (told.files tt) in
         subst (λ (o : Outcome). LeavesAllowed t w f o.effects) (comes f left (told.files tt) cut is) (λ g since. inr (put.leaves f (told.files tt) g since));

@@ -1,5 +1,5 @@
 -- A filter whose text is restyled in memory before it is written.
-use Rattle.std.proofs.Common.{◌≡◌, inl, inr, ℕ, ◌++◌, ◌||◌, Bool, true, false, List, [], Some, Result, Ok, Err, IfErr, OnErr, OnOk, cond, length, nat_lt, refl, sym, subst, ap, ◌∙◌}
+use Rattle.std.proofs.Common.{◌≡◌, inl, inr, ℕ, ◌||◌, Bool, true, false, List, [], Some, Result, Ok, Err, IfErr, OnErr, OnOk, cond, length, nat_lt, refl, sym, subst, ap, ◌∙◌}
 use Rattle.std.proofs.lemmas.Bool.{false≢true}
 use Rattle.std.proofs.lemmas.List.{append-nil}
 use Rattle.std.proofs.lemmas.Option.{same_Some}
@@ -16,7 +16,7 @@ use Rattle.whole_filters.specs.Outcomes.{IsOutcomeOf, Outcome}
 use Rattle.whole_filters.specs.Sifting.{AnswersFault, HasTextCause, IsTold, Sifts, is_refusal}
 use Rattle.whole_filters.specs.declared.fault.FilterFault.{FilterFault}
 use Rattle.whole_filters.specs.declared.fault.FilterFault.TheVariants as faults
-use Rattle.filter_cli.specs.Converting.{FormOutcome, Forms, IsConverted, as_form, styled_form}
+use Rattle.filter_cli.specs.Converting.{FormOutcome, Forms, IsConverted, styled_form}
 use Rattle.filter_cli.specs.Outcomes.{styled}
 use Rattle.filter_cli.specs.Styling.{IsPutFault, form_in_memory, in_memory, of_put}
 use Rattle.filter_cli.specs.declared.form_fault.FormFault.{FormFault}
@@ -187,3 +187,15 @@ module _ (form : Form) (j : PlainFilterJob) (style : PlainStyle) (o : Files → 
       → OnOk r (Receives c d (restyled style text)) → OnErr r (ReceivesPart c d (restyled style text)) → IfErr r (λ e. IsPutFault e c d) → Forms form j restyled_form t u a b c d (of_put r)
   forms-on text m n c d r empty full h passes received failed cause =
       as-put c d r (put-on j.input j.select Cause ⊥ (IsConverted o) (IsConverted restyled_form) t u a b text (restyled style text) m n c d (λ f left is. ap (styled_form style) is) empty full h passes r received failed cause)
+
+-- ---- where something is told of hunks, or nothing
+
+module _ (i : Input) (s : PlainSelect) (R : FilterFault → Type 0) (Q : Type 0) (told untold : Files → List ℕ → Outcome) (t u : TreeView) (a b : SourceView) (c d : SinkView) (r : Result (Unit {0}) FilterFault) where
+  abbrev either : Bool → Files → List ℕ → Outcome
+  either asks f left = cond asks (told f left) (untold f left)
+
+  pub sifts-told : (asks : Bool) → asks ≡ true → Sifts i s R Q (IsOutcomeOf told) t u a b c d r → Sifts i s R Q (IsOutcomeOf (either asks)) t u a b c d r
+  sifts-told asks is h = subst (λ x. Sifts i s R Q (IsOutcomeOf (either x)) t u a b c d r) (sym is) h
+
+  pub sifts-untold : (asks : Bool) → asks ≡ false → Sifts i s R Q (IsOutcomeOf untold) t u a b c d r → Sifts i s R Q (IsOutcomeOf (either asks)) t u a b c d r
+  sifts-untold asks is h = subst (λ x. Sifts i s R Q (IsOutcomeOf (either x)) t u a b c d r) (sym is) h

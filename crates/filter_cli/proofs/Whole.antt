@@ -1,10 +1,9 @@
 -- What a run promises, from what its steps say.
-use Rattle.std.proofs.Common.{◌≡◌, ◌⊎◌, inl, inr, ⊎_elim, ℕ, zero, List, [], length, true, false, Bool, Some, None, Result, Ok, Err, refl, sym, ◌∙◌, ap, subst, arith}
-use Rattle.std.proofs.lemmas.Bool.{false≢true}
+use Rattle.std.proofs.Common.{◌≡◌, ◌⊎◌, inl, inr, ⊎_elim, ℕ, zero, List, [], length, true, false, Bool, Some, Result, Ok, Err, refl, sym, ◌∙◌, ap, subst, arith}
 use Rattle.std.proofs.lemmas.List.{append-nil}
 use Rattle.std.proofs.lemmas.Option.{same_Some}
 use Rattle.outside.specs.Files.{Files, SameLasting, lasting-same}
-use Rattle.outside.specs.TreeView.{TreeView, Passes, MayLeave, LeftSince}
+use Rattle.outside.specs.TreeView.{TreeView, Passes}
 use Rattle.outside.specs.FinderView.{FinderView, FinderPasses, finder_passes_none}
 use Rattle.outside.specs.SinkView.{SinkView, SinkPasses, sink_passes_none}
 use Rattle.outside.specs.SourceView.{SourceView, SourcePasses, source_passes_none}

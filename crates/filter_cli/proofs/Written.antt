@@ -19,6 +19,7 @@ use Rattle.patch_filters.specs.declared.fault.GrepFault.{GrepFault}
 use Rattle.patch_filters.specs.declared.fault.GrepFault.TheVariants as grep
 use Rattle.patch_filters.specs.Grepped.{HasGrepCause, grepped}
 use Rattle.filter_cli.specs.Faults.{of_grep, of_search, of_sink}
+use Rattle.filter_cli.specs.Styling.{PutsText}
 use Rattle.whole_filters.specs.Outcomes.{Outcome, given}
 use Rattle.filter_cli.specs.Outcomes.{HasPatches, IsGrepped, grep_with}
 use Rattle.whole_filters.specs.Sifting.{HasCause, HasTextCause, IsTold, Sifts, is_early, is_refusal}
@@ -132,6 +133,19 @@ module _ {V : Type 0} (Is : Bool → List ℕ → V → Type 0) (i : Input) (old
   sifts-over view x y None r h writes none = let is = none refl in rw (is.0, is.1) (sifts-nothing (view x) h)
   sifts-over view x y (Some v) (Ok done) h writes none = sifts-written v h (view x) (view y) writes
   sifts-over view x y (Some v) (Err e) h writes none = sifts-cut v h (view x) (view y) e writes
+
+  -- the same of a text that was made in memory
+  pub sifts-text : {O : Type 0} (view : O → SinkView) (same_rest : O → O → Type 0) (x y : O) (o : Option V) (r : Result (Unit {0}) FilterFault) → Opens Is i old new t u a b (Ok o)
+      → IfSome o (λ v. PutsText view same_rest x y r (written new v)) → (o ≡ None → (r ≡ Ok tt) × (y ≡ x)) → Sifts i old (HasTextCause old.skip_binary) Q P t u a b (view x) (view y) r
+  sifts-text view same_rest x y None r h puts none = let is = none refl in rw (is.0, is.1) (sifts-nothing (view x) h)
+  sifts-text view same_rest x y (Some v) (Ok done) h puts none = sifts-done v h (view x) (view y) puts.passes puts.received
+  sifts-text view same_rest x y (Some v) (Err faults.Write) h puts none = sifts-broken v h (view x) (view y) faults.Write refl refl puts.passes puts.failed puts.cause
+  sifts-text view same_rest x y (Some v) (Err faults.Memory) h puts none = sifts-broken v h (view x) (view y) faults.Memory refl refl puts.passes puts.failed tt
+  sifts-text view same_rest x y (Some v) (Err (faults.Input e)) h puts none = absurd puts.cause
+  sifts-text view same_rest x y (Some v) (Err (faults.Set e)) h puts none = absurd puts.cause
+  sifts-text view same_rest x y (Some v) (Err (faults.Unfit line)) h puts none = absurd puts.cause
+  sifts-text view same_rest x y (Some v) (Err faults.Pattern) h puts none = absurd puts.cause
+  sifts-text view same_rest x y (Some v) (Err faults.Tree) h puts none = absurd puts.cause
 
 -- ---- a search, whose pattern may be refused
 abbrev ended : GrepFault → Result (Unit {0}) GrepFault

@@ -1,6 +1,5 @@
 -- What a run of a filter promises: that it is the command's, and what stands at each moment.
 use Rattle.std.specs.Prelude.{◌≡◌, ◌≢◌, ◌⊎◌, ℕ, ◌+◌, ◌≤◌, List, [], length, take, Bool, true, false, Some, Result, Ok, Err}
-use Rattle.line_list.specs.declared.Span.{Span}
 use Rattle.outside.specs.Faults.{HasRisen}
 use Rattle.outside.specs.Files.{Files, SameLasting}
 use Rattle.outside.specs.TreeView.{TreeView, Passes, MayLeave, LeftSince}
@@ -13,9 +12,8 @@ use Rattle.tool_words.specs.PlainJobs.{PlainToolJob}
 use Rattle.tool_words.specs.PlainJobs.PlainToolJob.{list_job, filter_job, grep_job, split_job, recount_job, gen_job, flip_job, stack_job}
 use Rattle.run_answers.specs.Input.{TakesAtMost}
 use Rattle.patch_task.specs.Making.{IsTidy}
-use Rattle.filter_choice.specs.Selected.{numbered}
-use Rattle.whole_filters.specs.Parting.{ReceivesFirst, part_lines, part_puts}
-use Rattle.whole_filters.specs.Splits.{Cut, split_outcome}
+use Rattle.whole_filters.specs.Parting.{Part, ReceivesFirst, part_lines, part_puts}
+use Rattle.whole_filters.specs.Splits.{split_outcome}
 use Rattle.run_answers.specs.declared.why.Why.{Why}
 use Rattle.run_answers.specs.declared.why.Why.TheVariants.{Done, TreeFault, Memory}
 use Rattle.run_answers.specs.Answers.{is_fault, is_own, is_early}
@@ -44,21 +42,21 @@ pub record IsAsAtEntry (u w : World) : Type 0 where
   pub images : (c : Files) → LeftSince w.tree u.tree.moment c → MayLeave u.tree c
 
 -- the first k of these parts are put, and no name is written but theirs; of these the last alone may be left out or cut off
-pub record IsCutAt (why : Why) (file text : List ℕ) (rows : List (ℕ × Span)) (f : Files) (w : TreeView) (c d : SinkView) (k : ℕ) : Type 0 where
-  pub few : k ≤ length rows
-  pub files : (g : Files) → w.told ≡ Some g → SameLasting (after_all (part_puts file text (take k rows)) f) g
-  pub exact : why ≢ TreeFault → w.told ≡ Some (after_all (part_puts file text (take k rows)) f)
-  pub out : ReceivesPart c d (part_lines file (take k rows))
+pub record IsCutAt (why : Why) (parts : List Part) (f : Files) (w : TreeView) (c d : SinkView) (k : ℕ) : Type 0 where
+  pub few : k ≤ length parts
+  pub files : (g : Files) → w.told ≡ Some g → SameLasting (after_all (part_puts (take k parts)) f) g
+  pub exact : why ≢ TreeFault → w.told ≡ Some (after_all (part_puts (take k parts)) f)
+  pub out : ReceivesPart c d (part_lines (take k parts))
   pub said : ℕ
   pub near : k ≤ said + 1
-  pub names : ReceivesFirst c d (part_lines file (take said rows))
+  pub names : ReceivesFirst c d (part_lines (take said parts))
 
 -- where parts are put, a fault comes before the first of them or behind some
 abbrev pub BreaksOff : Result PlainToolJob WordFault → Why → Files → World → World → Type 0
 BreaksOff (Ok (list_job j)) why f u w = Unit {0}
 BreaksOff (Ok (filter_job j)) why f u w = Unit {0}
 BreaksOff (Ok (grep_job j)) why f u w = Unit {0}
-BreaksOff (Ok (split_job j)) why f u w = IsAsAtEntry u w ⊎ ((x : Cut) × (split_outcome j f ≡ Ok x) × ((k : ℕ) × IsCutAt why j.input x.0 (numbered x.1) f w.tree u.out w.out k))
+BreaksOff (Ok (split_job j)) why f u w = IsAsAtEntry u w ⊎ ((parts : List Part) × (split_outcome j f ≡ Ok parts) × ((k : ℕ) × IsCutAt why parts f w.tree u.out w.out k))
 BreaksOff (Ok (recount_job input)) why f u w = Unit {0}
 BreaksOff (Ok (gen_job j)) why f u w = Unit {0}
 BreaksOff (Ok (flip_job input)) why f u w = Unit {0}

@@ -6,7 +6,6 @@ use Rattle.outside.specs.FinderView.{FinderView}
 use Rattle.patch_options.specs.declared.options.WordFault.{WordFault}
 use Rattle.tool_words.specs.PlainJobs.{PlainFilterJob, PlainToolJob}
 use Rattle.tool_words.specs.PlainJobs.PlainToolJob.{list_job, filter_job, grep_job, split_job, recount_job, gen_job, flip_job, stack_job}
-use Rattle.filter_choice.specs.Selected.{numbered}
 use Rattle.whole_filters.specs.declared.fault.FilterFault.{FilterFault}
 use Rattle.whole_filters.specs.declared.fault.FilterFault.TheVariants as faults
 use Rattle.filter_cli.specs.declared.form_fault.FormFault.{FormFault}
@@ -15,8 +14,8 @@ use Rattle.filter_cli.specs.Converting.{styled_convert}
 use Rattle.filter_cli.specs.Outcomes.{HasPatches, list_outcome, grep_outcome, styled_filter}
 use Rattle.whole_filters.specs.Outcomes.{given, recount_outcome}
 use Rattle.whole_filters.specs.Flips.{flip_outcome}
-use Rattle.whole_filters.specs.Parting.{part_lines, part_puts}
-use Rattle.whole_filters.specs.Splits.{Cut, split_outcome}
+use Rattle.whole_filters.specs.Parting.{Part, part_lines, part_puts}
+use Rattle.whole_filters.specs.Splits.{split_outcome}
 use Rattle.run_answers.specs.declared.why.Why.{Why}
 use Rattle.run_answers.specs.declared.why.Why.TheVariants.{Done, Usage, BadPattern, NoContext, Unfit, WriteFault, TreeFault, Memory}
 use Rattle.run_answers.specs.Answers.{of_words, of_input, of_set}
@@ -64,16 +63,16 @@ in_form None j files left = written (styled_filter j files left)
 in_form (Some form) j files left = formed (styled_convert form j files left)
 
 -- the parts of a text are put, and their names are written
-abbrev pub parted : List ℕ → Result Cut FilterFault → Outcome
-parted file (Ok x) = record { why = Done; text = part_lines file (numbered x.1); effects = part_puts file x.0 (numbered x.1) }
-parted file (Err fault) = refused (of_filter fault)
+abbrev pub parted : Result (List Part) FilterFault → Outcome
+parted (Ok parts) = record { why = Done; text = part_lines parts; effects = part_puts parts }
+parted (Err fault) = refused (of_filter fault)
 
 -- what a job comes to, for what the finder hits
 abbrev pub on_job : (List ℕ → List ℕ → Bool) → PlainToolJob → Files → List ℕ → Outcome
 on_job hit (list_job j) files left = written (list_outcome j files left)
 on_job hit (filter_job j) files left = in_form j.format j files left
 on_job hit (grep_job j) files left = written (grep_outcome hit j files left)
-on_job hit (split_job j) files left = parted j.input (split_outcome j files)
+on_job hit (split_job j) files left = parted (split_outcome j files)
 on_job hit (recount_job input) files left = written (recount_outcome input files left)
 on_job hit (gen_job j) files left = refused Usage
 on_job hit (flip_job input) files left = written (flip_outcome input files left)

@@ -1,8 +1,9 @@
 -- What a filter that chooses comes to, by its job, the files of the tree and what standard input has left alone (manual pages of patchutils).
-use Rattle.std.specs.Prelude.{◌≡◌, ◌≢◌, ◌⊎◌, ℕ, List, [], Bool, false, Option, None, Some, Result, Ok, Err}
+use Rattle.std.specs.Prelude.{◌≡◌, ◌≢◌, ◌⊎◌, ℕ, List, [], Bool, false, Option, None, Some, Result, Ok, Err, if◌then◌else◌}
 use Rattle.outside.specs.Files.{Files}
 use Rattle.tool_words.specs.PlainJobs.{PlainSelect, PlainListJob, PlainFilterJob, PlainGrepJob, PlainStyle}
 use Rattle.patch_style.specs.Styled.{restyled}
+use Rattle.patch_filters.specs.Told.{asks_told}
 use Rattle.run_answers.specs.declared.fault.InputFault.{InputFault}
 use Rattle.patch_set.specs.declared.fault.SetFault.{SetFault}
 use Rattle.patch_set.specs.declared.fault.SetFault.TheVariants.{Garbage}
@@ -10,7 +11,7 @@ use Rattle.patch_set.specs.Refusals.{refusal}
 use Rattle.whole_filters.specs.Texts.{defaults, patches_in}
 use Rattle.whole_filters.specs.Outcomes.{Outcome, given}
 use Rattle.whole_filters.specs.declared.fault.FilterFault.TheVariants as faults
-use Rattle.filter_cli.specs.Texts.{filtered_in, grepped_in, listed_in}
+use Rattle.filter_cli.specs.Texts.{filtered_in, grepped_in, listed_in, told_in}
 
 -- the same job with another selection
 abbrev pub list_with : PlainListJob → PlainSelect → PlainListJob
@@ -46,9 +47,17 @@ abbrev pub styled : PlainStyle → Outcome → Outcome
 styled style (Ok text) = Ok (restyled style text)
 styled style (Err fault) = Err fault
 
+-- the same where something is told of hunks, or all text is written, with names and text as the style has them
+unfoldable pub told_outcome : PlainFilterJob → Files → List ℕ → Outcome
+told_outcome j files left = outcome_by (λ s text. told_in (filter_with j s) text) (given j.input j.select files left)
+
 -- `filterdiff` with its style: what it writes without one, restyled
+abbrev pub untold_filter : PlainFilterJob → Files → List ℕ → Outcome
+untold_filter j files left = styled j.style (filter_outcome j files left)
+
+-- and where something is told of hunks, or all text is written
 abbrev pub styled_filter : PlainFilterJob → Files → List ℕ → Outcome
-styled_filter j files left = styled j.style (filter_outcome j files left)
+styled_filter j files left = if asks_told j then told_outcome j files left else untold_filter j files left
 
 -- `grepdiff`, for what a finder hits and a pattern that it takes
 unfoldable pub grep_outcome : (List ℕ → List ℕ → Bool) → PlainGrepJob → Files → List ℕ → Outcome

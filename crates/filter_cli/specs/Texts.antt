@@ -1,13 +1,14 @@
 -- What `lsdiff`, `filterdiff` and `grepdiff` write of a text: told by the text alone (manual pages of patchutils).
-use Rattle.std.specs.Prelude.{ℕ, Bool, filter, List, [], ◌++◌, None, if◌then◌else◌}
-use Rattle.std.specs.List.{flat_map, list_any}
+use Rattle.std.specs.Prelude.{ℕ, Bool, filter, List, [], ◌++◌, length, map, None, if◌then◌else◌}
+use Rattle.std.specs.List.{flat_map, list_any, range_with_len, zip}
 use Rattle.line_list.specs.Completed.{completed}
 use Rattle.filter_choice.specs.Kept.{is_taken, kept}
 use Rattle.filter_choice.specs.Selected.{numbered}
 use Rattle.patch_filters.specs.Filtered.{asks_no_hunk, chosen, text_if}
-use Rattle.patch_filters.specs.Grepped.{hits_of, is_found}
+use Rattle.patch_filters.specs.Grepped.{hits_of, is_found, tells, told_found}
 use Rattle.patch_filters.specs.HunkLines.{first_line, lines_from}
 use Rattle.patch_filters.specs.Listed.{asks_hunks, is_listed, list_line, listed, name_line}
+use Rattle.patch_filters.specs.Told.{text_behind, told_of}
 use Rattle.tool_words.specs.PlainJobs.{PlainFilterJob, PlainGrepJob, PlainListJob}
 use Rattle.tool_words.specs.declared.jobs.GrepOut.{GrepOut}
 use Rattle.tool_words.specs.declared.jobs.GrepOut.TheVariants.{Names, Hunks, Files}
@@ -49,6 +50,17 @@ is_spot_taken j n = is_taken j n.0 n.1.1.header
 unfoldable pub filtered_in : PlainFilterJob → List ℕ → List ℕ
 filtered_in j text = flat_map (λ n. spot_written j (completed text) n.1) (filter (is_spot_taken j) (numbered (spots_in j.select.skip_binary text)))
 
+-- what is written of a file patch where something is told of its hunks
+abbrev pub spot_told : PlainFilterJob → List ℕ → ℕ × Spot → List ℕ
+spot_told j text n = told_of j n.0 n.1.1 (front_of text n.1.0) (pieces_of text n.1.0) (all_of text n.1.0)
+
+-- of all of them, counted from 0, and of the text behind them
+abbrev pub told_at : PlainFilterJob → List ℕ → List Spot → List ℕ
+told_at j text spots = flat_map (spot_told j text) (zip (range_with_len 0 (length spots)) spots) ++ text_behind j.verbose text (map (λ s. s.0.end) spots)
+
+unfoldable pub told_in : PlainFilterJob → List ℕ → List ℕ
+told_in j text = told_at j (completed text) (spots_in j.select.skip_binary text)
+
 -- ---- `grepdiff`
 
 -- of a file patch that is found its line and, where that is asked for, those of the hunks with a hit; or the lines in front of its hunks and
@@ -58,6 +70,10 @@ spot_found hit Names j text s = name_line j.shown None s.1 ++ text_if (j.shown.h
 spot_found hit Hunks j text s = front_of text s.0 ++ chosen (hits_of j.searched hit s.1.change) (pieces_of text s.0)
 spot_found hit Files j text s = all_of text s.0
 
+-- the same with its hunks told or numbered, where that is asked for
+abbrev pub spot_asked : (List ℕ → Bool) → PlainGrepJob → List ℕ → Spot → List ℕ
+spot_asked hit j text s = if tells j then told_found j (hits_of j.searched hit s.1.change) s.1 (front_of text s.0) (pieces_of text s.0) else spot_found hit j.output j text s
+
 -- what is written of the file patches of a text that are found
 unfoldable pub grepped_in : (List ℕ → Bool) → PlainGrepJob → List ℕ → List ℕ
-grepped_in hit j text = flat_map (spot_found hit j.output j (completed text)) (filter (λ s. is_found hit j s.1) (spots_in j.select.skip_binary text))
+grepped_in hit j text = flat_map (spot_asked hit j (completed text)) (filter (λ s. is_found hit j s.1) (spots_in j.select.skip_binary text))

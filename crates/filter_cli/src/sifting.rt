@@ -167,7 +167,7 @@ pub fn run_grep<T: Tree, F: Finder, I: Source, O: Sink>(
 
 /// Leaves what was read to the end of the process, which a filter comes to next: to give the memory of many file patches or hunks back takes
 /// a tenth of a run.
-fn leave<V: Drop>(opened: Option<V>) {
+pub fn leave<V: Drop>(opened: Option<V>) {
     forget(opened);
 }
 

@@ -1,5 +1,5 @@
 //! `filterdiff` with names and text written otherwise than they stand: what it writes without that goes to memory, and from there on its way.
-ghost use Rattle.std.specs.Prelude.{◌≡◌, None, Ok, Some};
+ghost use Rattle.std.specs.Prelude.{◌≡◌, None, Ok, Some, IfSome};
 ghost use Rattle.outside.specs.Puts.{Puts};
 ghost use Rattle.tool_words.specs.PlainJobs.{plain_filter_job, plain_select, plain_style};
 ghost use Rattle.run_answers.specs.Input.{IsFile};
@@ -7,18 +7,21 @@ ghost use Rattle.patch_style.specs.Styled.{restyled};
 ghost use Rattle.whole_filters.specs.Outcomes.{IsOutcomeOf};
 ghost use Rattle.whole_filters.specs.Sifting.{HasTextCause, Sifts};
 ghost use Rattle.filter_cli.specs.Converting.{Forms, styled_convert};
-ghost use Rattle.filter_cli.specs.Outcomes.{styled_filter};
+ghost use Rattle.filter_cli.specs.Outcomes.{styled_filter, told_outcome, untold_filter};
+ghost use Rattle.patch_filters.specs.Told.{told};
 ghost use Rattle.filter_cli.specs.Styling.{PutsText, form_in_memory, in_memory, of_put};
 
 use crate::converting::run_convert;
 use crate::form_fault::FormFault;
-use crate::sifting::run_filter;
+use crate::sifting::{leave, run_filter};
 use hunk_core::Form;
 use outside::{Sink, Source, Tree, put_all};
+use patch_filters::{asks_told, told_patches};
+use patch_set::PatchSet;
 use patch_style::{Memory, is_plain, restyle};
 use std::alloc::Global;
 use tool_words::{FilterJob, Style};
-use whole_filters::FilterFault;
+use whole_filters::{FilterFault, open_text};
 
 /// Carries out a command of `filterdiff` that asks for no form.
 pub fn run_styled<T: Tree, I: Source, O: Sink>(
@@ -50,6 +53,77 @@ fn filter_so<T: Tree, I: Source, O: Sink>(
     ensures unread { IsFile job.old.input → source.new ≡ source.old }
     ensures rest { O.same_rest out.old out.new }
 {
+    if asks_told(job) {
+        return filter_told(alloc, job, tree, source, out);
+    }
+    filter_untold(alloc, job, tree, source, out)
+}
+
+/// The same where something is told of hunks, or all text is written.
+fn filter_told<T: Tree, I: Source, O: Sink>(
+    alloc: Global,
+    job: &mut FilterJob,
+    tree: &mut T,
+    source: &mut I,
+    out: &mut O,
+) -> Result<(), FilterFault>
+    ensures sifts { Sifts job.old.input (plain_select job.old.select) (HasTextCause job.old.select.skip_binary) ⊥ (IsOutcomeOf (told_outcome (plain_filter_job job.old))) (T.view tree.old) (T.view tree.new) (I.view source.old) (I.view source.new) (O.view out.old) (O.view out.new) result }
+    ensures unread { IsFile job.old.input → source.new ≡ source.old }
+    ensures rest { O.same_rest out.old out.new }
+{
+    match open_text(alloc, &job.input, &mut job.select, tree, source) {
+        Ok(opened) => {
+            let answer = put_told(alloc, &opened, job, out);
+            leave(opened);
+            answer
+        }
+        Err(fault) => Err(fault),
+    }
+}
+
+/// Writes what is told of the hunks of the file patches, where there are some.
+fn put_told<O: Sink>(
+    alloc: Global,
+    opened: &Option<PatchSet>,
+    job: &FilterJob,
+    out: &mut O,
+) -> Result<(), FilterFault>
+    ensures puts { IfSome opened.now (λ v. PutsText O.view O.same_rest out.old out.new result (told (plain_filter_job job.now) v)) }
+    ensures none { opened.now ≡ None → (result ≡ Ok tt) × (out.new ≡ out.old) }
+    ensures rest { O.same_rest out.old out.new }
+{
+    match opened {
+        Some(set) => put_told_set(alloc, set, job, out),
+        None => Ok(()),
+    }
+}
+
+fn put_told_set<O: Sink>(
+    alloc: Global,
+    set: &PatchSet,
+    job: &FilterJob,
+    out: &mut O,
+) -> Result<(), FilterFault>
+    ensures { PutsText O.view O.same_rest out.old out.new result (told (plain_filter_job job.now) set.now) }
+{
+    match told_patches(alloc, set, job) {
+        Ok(text) => put_text(&text, out),
+        Err(_) => Err(FilterFault::Memory),
+    }
+}
+
+/// The same where neither is asked for.
+fn filter_untold<T: Tree, I: Source, O: Sink>(
+    alloc: Global,
+    job: &mut FilterJob,
+    tree: &mut T,
+    source: &mut I,
+    out: &mut O,
+) -> Result<(), FilterFault>
+    ensures sifts { Sifts job.old.input (plain_select job.old.select) (HasTextCause job.old.select.skip_binary) ⊥ (IsOutcomeOf (untold_filter (plain_filter_job job.old))) (T.view tree.old) (T.view tree.new) (I.view source.old) (I.view source.new) (O.view out.old) (O.view out.new) result }
+    ensures unread { IsFile job.old.input → source.new ≡ source.old }
+    ensures rest { O.same_rest out.old out.new }
+{
     if is_plain(&job.style) {
         return run_filter(alloc, job, tree, source, out);
     }
@@ -64,7 +138,7 @@ fn filter_restyled<T: Tree, I: Source, O: Sink>(
     source: &mut I,
     out: &mut O,
 ) -> Result<(), FilterFault>
-    ensures sifts { Sifts job.old.input (plain_select job.old.select) (HasTextCause job.old.select.skip_binary) ⊥ (IsOutcomeOf (styled_filter (plain_filter_job job.old))) (T.view tree.old) (T.view tree.new) (I.view source.old) (I.view source.new) (O.view out.old) (O.view out.new) result }
+    ensures sifts { Sifts job.old.input (plain_select job.old.select) (HasTextCause job.old.select.skip_binary) ⊥ (IsOutcomeOf (untold_filter (plain_filter_job job.old))) (T.view tree.old) (T.view tree.new) (I.view source.old) (I.view source.new) (O.view out.old) (O.view out.new) result }
     ensures unread { IsFile job.old.input → source.new ≡ source.old }
     ensures rest { O.same_rest out.old out.new }
 {

@@ -108,6 +108,14 @@ module _ {O : Type 0} {view : O → SinkView} {same : O → O → Type 0} where
   if-unset true x is p = absurd (false≢true (sym is))
   if-unset false x is p = p
 
+  pub either-set : {a n : FinderView} {old new : O} {R : Type 0} {r : Result R GrepFault} (b : Bool) (x y : List ℕ) → b ≡ true → Finds view same a n old new r x → Finds view same a n old new r (if b then x else y)
+  either-set true x y is p = p
+  either-set false x y is p = absurd (false≢true is)
+
+  pub either-unset : {a n : FinderView} {old new : O} {R : Type 0} {r : Result R GrepFault} (b : Bool) (x y : List ℕ) → b ≡ false → Finds view same a n old new r y → Finds view same a n old new r (if b then x else y)
+  either-unset true x y is p = absurd (false≢true (sym is))
+  either-unset false x y is p = p
+
   pub by-output : {a n : FinderView} {old new : O} {R : Type 0} {r : Result R GrepFault} (hit : List ℕ → Bool) (j : PlainGrepJob) (text : List ℕ) (q : FilePatch) (asked kind : GrepOut) → asked ≡ kind → Finds view same a n old new r (found_text hit kind j text q) → Finds view same a n old new r (found_text hit asked j text q)
   by-output {a = a} {n = n} {old = old} {new = new} {r = r} hit j text q asked kind is p = subst (λ o. Finds view same a n old new r (found_text hit o j text q)) (sym is) p
 

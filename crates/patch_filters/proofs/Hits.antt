@@ -27,14 +27,14 @@ use Rattle.tool_words.specs.declared.jobs.Searched.{Searched}
 use Rattle.hunk_core.specs.declared.Mark.TheVariants.{Add}
 use Rattle.patch_header.specs.Content.{content}
 use Rattle.patch_filters.specs.Filtered.{pieces, text_if}
-use Rattle.patch_filters.specs.Grepped.{IsFirst, contents, found_text, grepped, hits_of, is_found, is_searched, text_if_found}
+use Rattle.patch_filters.specs.Grepped.{IsFirst, asked_text, contents, grepped, hits_of, is_found, is_searched, text_if_found}
 use Rattle.filter_choice.proofs.Rows.{any-map, flat-if}
 use Rattle.outside.proofs.Loops.{up_to, one-more, both}
 use Rattle.patch_filters.proofs.Flagged.{rows, rows-long, row-at}
 
 pub grepped-is : (hit : List ℕ → Bool) (j : PlainGrepJob) (v : SetView) → grepped hit j v ≡ flat_map (text_if_found hit j v.text) v.patches
 unfolding grepped
-grepped-is hit j v = flat-if (λ (p : FilePatch). is_found hit j (patch_of v.text p)) (found_text hit j.output j v.text) v.patches
+grepped-is hit j v = flat-if (λ (p : FilePatch). is_found hit j (patch_of v.text p)) (asked_text hit j v.text) v.patches
 
 pub grepped-none : (hit : List ℕ → Bool) (j : PlainGrepJob) (v : SetView) → v.patches ≡ [] → [] ≡ grepped hit j v
 grepped-none hit j v none = sym (grepped-is hit j v ∙ ap (flat_map (text_if_found hit j v.text)) none)

@@ -10,3 +10,4 @@ mod Finding
 mod Hits
 pub mod Outlined
 pub mod Digesting
+pub mod HunkTexts

@@ -1,5 +1,5 @@
 -- What is written of the file patches of which a line is found (manual page of `grepdiff`).
-use Rattle.std.specs.Prelude.{◌≡◌, ℕ, Bool, true, false, ◌&&◌, filter, List, [], ◌∷◌, ◌++◌, map, take, slice_get, Option, None, Some, Result, IfErr, OnOk, OnErr, if◌then◌else◌}
+use Rattle.std.specs.Prelude.{◌≡◌, ℕ, Bool, true, false, not, ◌&&◌, ◌||◌, filter, List, [], ◌∷◌, ◌++◌, map, take, slice_get, Option, None, Some, Result, IfErr, OnOk, OnErr, if◌then◌else◌}
 use Rattle.std.specs.List.{flat_map, list_any}
 use Rattle.outside.specs.FinderView.{FinderView, FinderPasses}
 use Rattle.outside.specs.SinkView.{SinkView, SinkPasses, Receives, ReceivesPart, Rises}
@@ -8,11 +8,12 @@ use Rattle.file_patch.specs.declared.FilePatch.{FilePatch}
 use Rattle.file_patch.specs.PlainPatch.{PlainChange, PlainPatch, hunks, script, change_of, patch_of}
 use Rattle.patch_set.specs.PlainName.{plain_name}
 use Rattle.patch_set.specs.SetView.{SetView}
-use Rattle.tool_words.specs.PlainJobs.{PlainGrepJob}
+use Rattle.tool_words.specs.PlainJobs.{PlainGrepJob, PlainStyle}
 use Rattle.tool_words.specs.declared.jobs.Searched.{Searched}
 use Rattle.tool_words.specs.declared.jobs.Searched.TheVariants.{All, Removed, Added, Changed}
 use Rattle.hunk_core.specs.declared.Mark.{Mark}
 use Rattle.hunk_core.specs.declared.Mark.TheVariants.{Keep, Drop, Add}
+use Rattle.tool_words.specs.declared.jobs.Marks.{Marks}
 use Rattle.tool_words.specs.declared.jobs.GrepOut.{GrepOut}
 use Rattle.tool_words.specs.declared.jobs.GrepOut.TheVariants.{Names, Hunks, Files}
 pub use Rattle.patch_header.specs.Content.{content}
@@ -22,6 +23,7 @@ use Rattle.filter_choice.specs.Selected.{is_selected}
 use Rattle.patch_filters.specs.Filtered.{region, pieces, chosen, text_if}
 use Rattle.patch_filters.specs.HunkLines.{hunk_lines}
 use Rattle.patch_filters.specs.Listed.{name_line}
+use Rattle.patch_filters.specs.Told.{Telling, asks_marks, told_hunks}
 
 -- lines with this mark are searched
 abbrev pub is_searched : Searched → Mark → Bool
@@ -54,13 +56,52 @@ found_text hit Names j text p = name_line j.shown None (patch_of text p) ++ text
 found_text hit Hunks j text p = region text p ++ chosen (hits_of j.searched hit (change_of text p.change)) (pieces text p)
 found_text hit Files j text p = bytes_at text p.span
 
+-- ---- with hunks told, or lines numbered
+
+abbrev pub shows_names : GrepOut → Bool
+shows_names Names = true
+shows_names Hunks = false
+shows_names Files = false
+
+-- that is asked for where hunks or file patches are written
+abbrev pub tells : PlainGrepJob → Bool
+tells j = asks_marks j.marks && not (shows_names j.output)
+
+-- names stay, and no other text is written
+abbrev pub no_style : PlainStyle
+no_style = record { strip = 0; prefix = None; old_prefix = []; new_prefix = []; no_stamps = false; clean = false }
+
+abbrev pub plain_telling : Marks → Telling
+plain_telling marks = record { style = no_style; marks = marks; verbose = false }
+
+-- the hunks that are written: those with a hit, or all
+abbrev pub is_whole : GrepOut → Bool
+is_whole Names = false
+is_whole Hunks = false
+is_whole Files = true
+
+abbrev pub written_flags : GrepOut → List Bool → List Bool
+written_flags out hits = map (λ hit. is_whole out || hit) hits
+
+-- of a file patch with these hits, the lines in front of its hunks, and the texts of these
+abbrev pub told_found : PlainGrepJob → List Bool → PlainPatch → List ℕ → List (List ℕ) → List ℕ
+told_found j hits p front texts = told_hunks (plain_telling j.marks) j.marks.numbered (written_flags j.output hits) p front texts
+
+abbrev pub found_told : (List ℕ → Bool) → PlainGrepJob → List ℕ → FilePatch → List ℕ
+found_told hit j text p = told_found j (hits_of j.searched hit (change_of text p.change)) (patch_of text p) (region text p) (pieces text p)
+
+-- ---- all of them
+
+abbrev pub asked_text : (List ℕ → Bool) → PlainGrepJob → List ℕ → FilePatch → List ℕ
+asked_text hit j text p = if tells j then found_told hit j text p else found_text hit j.output j text p
+
 -- what is written of the file patches that are found
 unfoldable pub grepped : (List ℕ → Bool) → PlainGrepJob → SetView → List ℕ
-grepped hit j v = flat_map (found_text hit j.output j v.text) (filter (λ p. is_found hit j (patch_of v.text p)) v.patches)
+grepped hit j v = flat_map (asked_text hit j v.text) (filter (λ p. is_found hit j (patch_of v.text p)) v.patches)
 
 -- the same of one file patch
 abbrev pub text_if_found : (List ℕ → Bool) → PlainGrepJob → List ℕ → FilePatch → List ℕ
-text_if_found hit j text p = if is_found hit j (patch_of text p) then found_text hit j.output j text p else []
+text_if_found hit j text p = if is_found hit j (patch_of text p) then asked_text hit j text p else []
 
 -- ---- one call
 

@@ -2,6 +2,8 @@ pub mod Filtered
 pub mod HunkLines
 pub mod Listed
 pub mod Digested
+pub mod Told
+pub mod Rows
 pub mod Grepped
 pub mod Laws
 pub mod RegexFound

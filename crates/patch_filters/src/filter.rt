@@ -79,7 +79,7 @@ fn put_parts<O: Sink>(
     Ok(())
 }
 
-fn asks_no_hunk(job: &FilterJob) -> bool
+pub fn asks_no_hunk(job: &FilterJob) -> bool
     ensures { result ≡ asks_no_hunk (plain_filter_job job.now) }
 {
     job.hunks.is_none() && job.lines.is_none()

@@ -1,6 +1,6 @@
 //! The file patches of a set of which a line is found.
 
-ghost use Rattle.std.specs.Prelude.{◌≡◌, ◌<◌, ◌++◌, IsSome, [], Ok, Some, false, length, slice_index_or, string_bytes, IfOk, OnOk, OnErr, IfErr};
+ghost use Rattle.std.specs.Prelude.{◌≡◌, ◌<◌, ◌++◌, IsSome, [], Ok, Some, false, length, slice_index_or, string_bytes, OnOk, OnErr, IfErr};
 ghost use Rattle.std.specs.Option.{ForSome};
 ghost use Rattle.outside.specs.FinderView.{FinderPasses};
 ghost use Rattle.outside.specs.SinkView.{Receives, ReceivesPart, SinkPasses};
@@ -10,18 +10,19 @@ ghost use Rattle.patch_set.specs.Spans.{IsPlaced};
 ghost use Rattle.tool_words.specs.PlainJobs.{plain_grep_job};
 ghost use Rattle.patch_filters.specs.Filtered.{chosen, pieces, region, text_if};
 ghost use Rattle.patch_filters.specs.HunkLines.{hunk_lines};
-ghost use Rattle.patch_filters.specs.Grepped.{Finds, HasGrepCause, IsAsked, IsFirst, found_text, grepped, hits_of, test_of, text_if_found};
+ghost use Rattle.patch_filters.specs.Grepped.{Finds, HasGrepCause, IsFirst, asked_text, found_text, grepped, hits_of, test_of, text_if_found};
 
 use crate::GrepFault;
+use crate::grep_told::{put_told, tells};
 use crate::hunk_lines::{first_line, hunk_feeds, hunk_line, put_labelled};
 use crate::list::put_name_line;
 use crate::pieces::{bytes_at, put_hunk, put_piece, put_region};
-use crate::search::{first_hit, is_hit, keep_pattern};
+use crate::search::{first_hit, is_hit, is_hit_behind, keep_pattern};
 use file_patch::FilePatch;
 use filter_choice::{is_selected, patch_at};
 use outside::{Finder, Sink};
 use patch_set::PatchSet;
-use std::alloc::{AllocError, Global};
+use std::alloc::Global;
 use tool_words::{GrepJob, GrepOut, Searched, Shown};
 
 /// Writes a hunk, counted from 0, if it has a hit.
@@ -69,32 +70,6 @@ fn put_parts<F: Finder, O: Sink>(
         put_if_hit(alloc, text, searched, patch, hunk, finder, out)?;
     }
     Ok(())
-}
-
-/// Whether a hunk, counted from 0, has a hit, where this is the first one that has.
-fn is_hit_behind<F: Finder>(
-    alloc: Global,
-    text: &[u8],
-    searched: Searched,
-    patch: &FilePatch,
-    first: u32,
-    hunk: u32,
-    finder: &mut F,
-) -> Result<bool, AllocError>
-    requires kept { IsSome (F.view finder.old).kept }
-    requires lawful { IsLawfulChange text.now patch.now.change }
-    requires within { hunk < row_count patch.now.change }
-    requires first { IsFirst (hits_of searched (test_of (F.view finder.old)) (change_of text.now patch.now.change)) (Some first) }
-    ensures asked { IsAsked (F.view finder.old) (F.view finder.new) }
-    ensures hit { IfOk result (λ b. b ≡ slice_index_or (hits_of searched (test_of (F.view finder.old)) (change_of text.now patch.now.change)) hunk false) }
-{
-    if hunk < first {
-        return Ok(false);
-    }
-    if hunk == first {
-        return Ok(true);
-    }
-    is_hit(alloc, text, searched, &patch.change, hunk, finder)
 }
 
 /// Writes the line of a hunk if this, counted from 0, has a hit, where this is the first one that has.
@@ -209,6 +184,27 @@ fn put_found<F: Finder, O: Sink>(
     }
 }
 
+/// The same, with its hunks told or numbered, where that is asked for.
+fn put_asked<F: Finder, O: Sink>(
+    alloc: Global,
+    set: &PatchSet,
+    job: &GrepJob,
+    patch: u32,
+    first: u32,
+    finder: &mut F,
+    out: &mut O,
+) -> Result<(), GrepFault>
+    requires kept { IsSome (F.view finder.old).kept }
+    requires within { patch < length set.now.patches }
+    requires first { ForSome (patch_at set.now patch) (λ p. IsFirst (hits_of job.now.searched (test_of (F.view finder.old)) (change_of set.now.text p.change)) (Some first)) }
+    ensures { ForSome (patch_at set.now patch) (λ p. Finds O.view O.same_rest (F.view finder.old) (F.view finder.new) out.old out.new result (asked_text (test_of (F.view finder.old)) (plain_grep_job job.now) set.now.text p)) }
+{
+    if tells(job) {
+        return put_told(alloc, set, job, patch, first, finder, out);
+    }
+    put_found(alloc, set, job, patch, first, finder, out)
+}
+
 /// Writes what is asked for of a file patch, counted from 0, if it is selected and has a hit.
 fn put_if_found<F: Finder, O: Sink>(
     alloc: Global,
@@ -235,7 +231,7 @@ fn put_if_found<F: Finder, O: Sink>(
     else {
         return Ok(());
     };
-    put_found(alloc, set, job, patch, first, finder, out)
+    put_asked(alloc, set, job, patch, first, finder, out)
 }
 
 fn put_grepped<F: Finder, O: Sink>(

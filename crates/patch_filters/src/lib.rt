@@ -2,17 +2,24 @@
 //! found, to any sink. Only a finder takes memory. After a failure the sink received a first part.
 #![tactic(auto)]
 
+mod all_told;
+mod appending;
 mod fault;
 mod filter;
 mod grep;
+mod grep_told;
 mod hunk_lines;
 mod hunks;
 mod laws;
 mod list;
+mod noting;
+mod numbering;
 mod pieces;
 mod regex_finder;
+mod row_parts;
 mod search;
 
+pub use all_told::{asks_told, told_patches};
 pub use fault::GrepFault;
 pub use filter::filter_patches;
 pub use grep::grep_patches;

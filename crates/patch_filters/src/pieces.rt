@@ -25,6 +25,14 @@ pub fn put_piece<O: Sink>(out: &mut O, piece: &[u8]) -> Result<(), Failed>
     put_all(out, piece)
 }
 
+/// The lines in front of the first hunk.
+pub fn region<'a>(text: &'a [u8], patch: &FilePatch) -> &'a [u8]
+    requires { IsPlaced text.now patch.now.span.start patch.now.first_verdict patch.now }
+    ensures { result.now ≡ region text.now patch.now }
+{
+    &text[patch.span.start as usize..patch.header.at]
+}
+
 /// Writes the lines in front of the first hunk.
 pub fn put_region<O: Sink>(text: &[u8], patch: &FilePatch, out: &mut O) -> Result<(), Failed>
     requires { IsPlaced text.now patch.now.span.start patch.now.first_verdict patch.now }

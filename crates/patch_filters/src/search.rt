@@ -38,7 +38,7 @@ pub fn keep_pattern<F: Finder>(
 }
 
 /// A line without the line feed at its end.
-fn content(line: &[u8]) -> &[u8]
+pub fn content(line: &[u8]) -> &[u8]
     ensures { result.now ≡ content line.now }
 {
     if has_feed(line) {
@@ -212,4 +212,30 @@ pub fn first_hit<F: Finder>(
         }
     }
     Ok(None)
+}
+
+/// Whether a hunk, counted from 0, has a hit, where this is the first one that has.
+pub fn is_hit_behind<F: Finder>(
+    alloc: Global,
+    text: &[u8],
+    searched: Searched,
+    patch: &FilePatch,
+    first: u32,
+    hunk: u32,
+    finder: &mut F,
+) -> Result<bool, AllocError>
+    requires kept { IsSome (F.view finder.old).kept }
+    requires lawful { IsLawfulChange text.now patch.now.change }
+    requires within { hunk < row_count patch.now.change }
+    requires first { IsFirst (hits_of searched (test_of (F.view finder.old)) (change_of text.now patch.now.change)) (Some first) }
+    ensures asked { IsAsked (F.view finder.old) (F.view finder.new) }
+    ensures hit { IfOk result (λ b. b ≡ slice_index_or (hits_of searched (test_of (F.view finder.old)) (change_of text.now patch.now.change)) hunk false) }
+{
+    if hunk < first {
+        return Ok(false);
+    }
+    if hunk == first {
+        return Ok(true);
+    }
+    is_hit(alloc, text, searched, &patch.change, hunk, finder)
 }

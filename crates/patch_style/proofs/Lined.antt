@@ -6,40 +6,39 @@ use Rattle.std.proofs.lemmas.List.Concat.{flat_map-cons}
 use Rattle.line_list.specs.Lines.{lines, IsLineAt}
 use Rattle.hunk_core.specs.declared.Form.{Form}
 use Rattle.tool_words.specs.PlainJobs.{PlainStyle}
-use Rattle.patch_style.specs.Fronts.{front, is_git_line, is_pair, line_at, lines_behind, names_behind, place_of}
+use Rattle.patch_style.specs.Fronts.{is_git_line, is_pair, line_at, lines_behind, names_behind, place_of}
 use Rattle.patch_style.specs.Styled.{hunk_line}
+use Rattle.patch_style.specs.declared.fronts.Parts.{Parts}
 use Rattle.patch_style.specs.declared.fronts.Place.{Place}
 use Rattle.patch_style.specs.declared.fronts.Place.TheVariants.{Text}
 
 -- ---- lines in front of hunks
 
-pub record HasFront (s : PlainStyle) (form : Form) (drops : Bool) (text old out : List ℕ) (place : Place) (at : ℕ) : Type 0 where
+pub record HasFront (s : PlainStyle) (form : Form) (parts : Parts) (text old out : List ℕ) (place : Place) (at : ℕ) : Type 0 where
   pub within : at ≤ length text
-  pub so_far : out ++ lines_behind s form drops place (lines (drop at text)) ≡ old ++ lines_behind s form drops Text (lines text)
+  pub so_far : out ++ lines_behind s form parts place (lines (drop at text)) ≡ old ++ lines_behind s form parts Text (lines text)
 
-pub front-none : (s : PlainStyle) (form : Form) (drops : Bool) (text old : List ℕ) → HasFront s form drops text old old Text 0
-front-none s form drops text old = record { within = omega arith; so_far = refl }
+pub front-none : (s : PlainStyle) (form : Form) (parts : Parts) (text old : List ℕ) → HasFront s form parts text old old Text 0
+front-none s form parts text old = record { within = omega arith; so_far = refl }
 
-pub front-more : (s : PlainStyle) (form : Form) (drops : Bool) (text old out more : List ℕ) (before here : Place) (at end : ℕ) → HasFront s form drops text old out before at → IsLineAt text at end
-    → here ≡ place_of form before (slice_range text at end) (lines (drop end text)) → more ≡ out ++ line_at s drops here (slice_range text at end) → HasFront s form drops text old more here end
-front-more s form drops text old out more before here at end so line is puts =
+pub front-more : (s : PlainStyle) (form : Form) (parts : Parts) (text old out more : List ℕ) (before here : Place) (at end : ℕ) → HasFront s form parts text old out before at → IsLineAt text at end
+    → here ≡ place_of form before (slice_range text at end) (lines (drop end text)) → more ≡ out ++ line_at s parts here (slice_range text at end) → HasFront s form parts text old more here end
+front-more s form parts text old out more before here at end so line is puts =
     let one = slice_range text at end in
     let rest = lines (drop end text) in
     record {
       within = line.high;
       so_far =
-          ap (λ l. l ++ lines_behind s form drops here rest) puts
-          ∙ append_assoc out (line_at s drops here one) (lines_behind s form drops here rest)
-          ∙ ap (λ p. out ++ (line_at s drops p one ++ lines_behind s form drops p rest)) is
-          ∙ ap (λ ls. out ++ lines_behind s form drops before ls) (sym line.first)
+          ap (λ l. l ++ lines_behind s form parts here rest) puts
+          ∙ append_assoc out (line_at s parts here one) (lines_behind s form parts here rest)
+          ∙ ap (λ p. out ++ (line_at s parts p one ++ lines_behind s form parts p rest)) is
+          ∙ ap (λ ls. out ++ lines_behind s form parts before ls) (sym line.first)
           ∙ so.so_far;
     }
 
-pub front-all : (s : PlainStyle) (form : Form) (drops : Bool) (text old out : List ℕ) (place : Place) (at : ℕ) → HasFront s form drops text old out place at → lines (drop at text) ≡ [] → drops ≡ (s.clean && names_behind form true (lines text))
-    → out ≡ old ++ front s form (lines text)
-unfolding front
-front-all s form drops text old out place at so none is =
-    sym (append-nil out) ∙ ap (λ ls. out ++ lines_behind s form drops place ls) (sym none) ∙ so.so_far ∙ ap (λ d. old ++ lines_behind s form d Text (lines text)) is
+pub front-all : (s : PlainStyle) (form : Form) (parts : Parts) (text old out : List ℕ) (place : Place) (at : ℕ) → HasFront s form parts text old out place at → lines (drop at text) ≡ []
+    → out ≡ old ++ lines_behind s form parts Text (lines text)
+front-all s form parts text old out place at so none = sym (append-nil out) ∙ ap (λ ls. out ++ lines_behind s form parts place ls) (sym none) ∙ so.so_far
 
 -- ---- lines in front of header lines
 
@@ -74,26 +73,26 @@ passed-all form any text at so none = ap (λ ls. names_behind form any ls) (sym 
 
 -- ---- lines of hunks
 
-pub record HasLines (form : Form) (text old out : List ℕ) (at : ℕ) : Type 0 where
+pub record HasLines (clean : Bool) (note : List ℕ) (form : Form) (text old out : List ℕ) (at : ℕ) : Type 0 where
   pub within : at ≤ length text
-  pub so_far : out ++ flat_map (hunk_line form) (lines (drop at text)) ≡ old ++ flat_map (hunk_line form) (lines text)
+  pub so_far : out ++ flat_map (hunk_line clean note form) (lines (drop at text)) ≡ old ++ flat_map (hunk_line clean note form) (lines text)
 
-pub lines-none : (form : Form) (text old : List ℕ) → HasLines form text old old 0
-lines-none form text old = record { within = omega arith; so_far = refl }
+pub lines-none : (clean : Bool) (note : List ℕ) (form : Form) (text old : List ℕ) → HasLines clean note form text old old 0
+lines-none clean note form text old = record { within = omega arith; so_far = refl }
 
-pub lines-more : (form : Form) (text old out more : List ℕ) (at end : ℕ) → HasLines form text old out at → IsLineAt text at end → more ≡ out ++ hunk_line form (slice_range text at end) → HasLines form text old more end
-lines-more form text old out more at end so line puts =
+pub lines-more : (clean : Bool) (note : List ℕ) (form : Form) (text old out more : List ℕ) (at end : ℕ) → HasLines clean note form text old out at → IsLineAt text at end → more ≡ out ++ hunk_line clean note form (slice_range text at end) → HasLines clean note form text old more end
+lines-more clean note form text old out more at end so line puts =
     let one = slice_range text at end in
     let rest = lines (drop end text) in
     record {
       within = line.high;
       so_far =
-          ap (λ l. l ++ flat_map (hunk_line form) rest) puts
-          ∙ append_assoc out (hunk_line form one) (flat_map (hunk_line form) rest)
-          ∙ ap (λ l. out ++ l) (sym (flat_map-cons (hunk_line form) one rest))
-          ∙ ap (λ ls. out ++ flat_map (hunk_line form) ls) (sym line.first)
+          ap (λ l. l ++ flat_map (hunk_line clean note form) rest) puts
+          ∙ append_assoc out (hunk_line clean note form one) (flat_map (hunk_line clean note form) rest)
+          ∙ ap (λ l. out ++ l) (sym (flat_map-cons (hunk_line clean note form) one rest))
+          ∙ ap (λ ls. out ++ flat_map (hunk_line clean note form) ls) (sym line.first)
           ∙ so.so_far;
     }
 
-pub lines-all : (form : Form) (text old out : List ℕ) (at : ℕ) → HasLines form text old out at → lines (drop at text) ≡ [] → out ≡ old ++ flat_map (hunk_line form) (lines text)
-lines-all form text old out at so none = sym (append-nil out) ∙ ap (λ ls. out ++ flat_map (hunk_line form) ls) (sym none) ∙ so.so_far
+pub lines-all : (clean : Bool) (note : List ℕ) (form : Form) (text old out : List ℕ) (at : ℕ) → HasLines clean note form text old out at → lines (drop at text) ≡ [] → out ≡ old ++ flat_map (hunk_line clean note form) (lines text)
+lines-all clean note form text old out at so none = sym (append-nil out) ∙ ap (λ ls. out ++ flat_map (hunk_line clean note form) ls) (sym none) ∙ so.so_far

@@ -1,9 +1,12 @@
 -- The lines in front of the hunks of a file patch: which of them are its own, and what is written of them (manual page of `filterdiff`).
-use Rattle.std.specs.Prelude.{ℕ, Bool, true, false, ◌&&◌, ◌||◌, List, [], ◌∷◌, ◌++◌, codes, if◌then◌else◌}
+use Rattle.std.specs.Prelude.{ℕ, Bool, true, false, not, ◌&&◌, ◌||◌, List, [], ◌∷◌, ◌++◌, codes, if◌then◌else◌}
 use Rattle.hunk_core.specs.declared.Form.{Form}
 use Rattle.hunk_core.specs.declared.Form.TheVariants.{Unified, Context, Normal, Ed}
 use Rattle.tool_words.specs.PlainJobs.{PlainStyle}
 use Rattle.patch_style.specs.Names.{begins, diff_line, header_line}
+use Rattle.tool_words.specs.declared.jobs.Numbered.{Numbered}
+use Rattle.tool_words.specs.declared.jobs.Numbered.TheVariants.{Before, After}
+use Rattle.patch_style.specs.declared.fronts.Parts.{Parts}
 use Rattle.patch_style.specs.declared.fronts.Place.{Place}
 use Rattle.patch_style.specs.declared.fronts.Place.TheVariants.{Text, Own, OldName, NewName}
 use Rattle.patch_style.specs.declared.names.Turn.TheVariants.{Old, New}
@@ -54,17 +57,43 @@ place_of form NewName line rest = NewName
 place_of form Text line rest = place_if Text (is_pair form line rest) (begins (codes "diff ") line && names_behind form false rest)
 place_of form Own line rest = place_if Own (is_pair form line rest) (begins (codes "diff ") line && names_behind form false rest)
 
--- what is written of it, where text is left out or not
-abbrev pub line_at : PlainStyle → Bool → Place → List ℕ → List ℕ
-line_at s drops Text line = if drops then [] else line
-line_at s drops Own line = if begins (codes "diff ") line then diff_line s line else line
-line_at s drops OldName line = header_line s Old line
-line_at s drops NewName line = header_line s New line
+-- a line of a git block, of which `diff` has names
+abbrev pub own_line : PlainStyle → List ℕ → List ℕ
+own_line s line = if begins (codes "diff ") line then diff_line s line else line
 
-abbrev pub lines_behind : PlainStyle → Form → Bool → Place → List (List ℕ) → List ℕ
-lines_behind s form drops place [] = []
-lines_behind s form drops place (line ∷ rest) = line_at s drops (place_of form place line rest) line ++ lines_behind s form drops (place_of form place line rest) rest
+-- what is written of a line, where lines like it are written
+abbrev pub line_at : PlainStyle → Parts → Place → List ℕ → List ℕ
+line_at s parts Text line = if parts.text then line else []
+line_at s parts Own line = if parts.own then own_line s line else []
+line_at s parts OldName line = if parts.old then header_line s Old line else []
+line_at s parts NewName line = if parts.new then header_line s New line else []
+
+abbrev pub lines_behind : PlainStyle → Form → Parts → Place → List (List ℕ) → List ℕ
+lines_behind s form parts place [] = []
+lines_behind s form parts place (line ∷ rest) = line_at s parts (place_of form place line rest) line ++ lines_behind s form parts (place_of form place line rest) rest
 
 -- all of them; text is left out where header lines tell the names
+abbrev pub all_parts : PlainStyle → Form → List (List ℕ) → Parts
+all_parts s form lines = record { text = not (s.clean && names_behind form true lines); own = true; old = true; new = true }
+
 unfoldable pub front : PlainStyle → Form → List (List ℕ) → List ℕ
-front s form lines = lines_behind s form (s.clean && names_behind form true lines) Text lines
+front s form lines = lines_behind s form (all_parts s form lines) Text lines
+
+-- those in front of lines with numbers: a git block, and the header line of their side; text only where all of it is asked for, or no header
+-- lines are there
+abbrev pub is_before : Numbered → Bool
+is_before Before = true
+is_before After = false
+
+abbrev pub side_parts : Bool → Numbered → Form → List (List ℕ) → Parts
+side_parts all side form lines = record { text = all || not (names_behind form true lines); own = true; old = is_before side; new = not (is_before side) }
+
+unfoldable pub side_front : PlainStyle → Bool → Numbered → Form → List (List ℕ) → List ℕ
+side_front s all side form lines = lines_behind s form (side_parts all side form lines) Text lines
+
+-- text alone
+abbrev pub text_parts : Parts
+text_parts = record { text = true; own = false; old = false; new = false }
+
+unfoldable pub text_front : PlainStyle → Form → List (List ℕ) → List ℕ
+text_front s form lines = lines_behind s form text_parts Text lines

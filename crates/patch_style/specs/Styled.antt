@@ -42,15 +42,38 @@ is_at b = b == 64
 abbrev pub mark_at : List ℕ → ℕ
 mark_at line = first is_at (drop 2 line)
 
--- without what stands behind the second `@@`
-abbrev pub cut_range : List ℕ → List ℕ
-cut_range line = if begins (codes "@@") (drop (mark_at line) (drop 2 line)) then take (mark_at line + 4) line ++ 10 ∷ [] else line
+-- a note behind the second `@@`, and what stood there, or the end of the line
+abbrev pub noted_range : Bool → List ℕ → List ℕ → List ℕ
+noted_range clean note line = if begins (codes "@@") (drop (mark_at line) (drop 2 line)) then (take (mark_at line + 4) line ++ note) ++ (if clean then 10 ∷ [] else drop (mark_at line + 4) line) else line
 
-abbrev pub hunk_line : Form → List ℕ → List ℕ
-hunk_line form line = if is_range form line then cut_range line else line
+abbrev pub is_star : ℕ → Bool
+is_star b = b == 42
+
+-- where `****` stands behind the first stars of the old range of the context form
+abbrev pub star_at : List ℕ → ℕ
+star_at line = first is_star (drop 4 line)
+
+-- a note in place of what stands behind it
+abbrev pub noted_stars : List ℕ → List ℕ → List ℕ
+noted_stars note line = if begins (codes "****") (drop (star_at line) (drop 4 line)) then (take (star_at line + 8) line ++ note) ++ 10 ∷ [] else line
+
+-- the line that tells the old range in the context form; no other line of its hunks begins so
+abbrev pub is_old_range : List ℕ → Bool
+is_old_range line = begins (codes "*** ") line
+
+-- a line of a hunk, where a note is told or none
+abbrev pub hunk_line : Bool → List ℕ → Form → List ℕ → List ℕ
+hunk_line clean note Unified line = if is_range Unified line then noted_range clean note line else line
+hunk_line clean note Context line = if not (is_empty note) && is_old_range line then noted_stars note line else line
+hunk_line clean note Normal line = line
+hunk_line clean note Ed line = line
+
+-- hunks with a note in the lines that tell their ranges
+unfoldable pub noted_text : Bool → List ℕ → Form → List ℕ → List ℕ
+noted_text clean note form text = flat_map (hunk_line clean note form) (lines text)
 
 abbrev pub hunks_text : PlainStyle → Form → List ℕ → List ℕ
-hunks_text s form text = if s.clean then flat_map (hunk_line form) (lines text) else text
+hunks_text s form text = if s.clean then noted_text true [] form text else text
 
 -- ---- file patches
 

@@ -4,13 +4,13 @@ ghost use Rattle.std.specs.Prelude.{◌≡◌, ◌++◌, ◌&&◌, ◌||◌, tru
 ghost use Rattle.line_list.specs.Lines.{IsLineAt, lines};
 ghost use Rattle.tool_words.specs.PlainJobs.{plain_style};
 ghost use Rattle.patch_style.specs.Names.{begins};
-ghost use Rattle.patch_style.specs.Fronts.{front, is_git_line, is_index_line, is_last, is_mode_line, is_move_line, is_pair, line_at, names_behind, place_if, place_of};
+ghost use Rattle.patch_style.specs.Fronts.{all_parts, front, is_before, is_git_line, is_index_line, is_last, is_mode_line, is_move_line, is_pair, line_at, lines_behind, names_behind, own_line, place_if, place_of, side_front, side_parts, text_front, text_parts};
 
 use crate::names::{Turn, put, put_diff_line, put_header_line};
 use hunk_core::Form;
 use line_list::next_line;
 use std::alloc::AllocError;
-use tool_words::Style;
+use tool_words::{Numbered, Style};
 
 /// What a line in front of the hunks is.
 #[derive(Clone, Copy)]
@@ -21,6 +21,17 @@ pub enum Place {
     Own,
     OldName,
     NewName,
+}
+
+/// Which lines in front of hunks are written.
+#[derive(Clone, Copy)]
+pub struct Parts {
+    pub text: bool,
+    /// Lines of a git block.
+    pub own: bool,
+    /// The header line of the old side.
+    pub old: bool,
+    pub new: bool,
 }
 
 /// Whether the text is one line that begins so.
@@ -147,7 +158,7 @@ fn place_of(form: Form, before: Place, line: &[u8], rest: &[u8]) -> Place
 
 /// Puts a line of a git block down.
 fn put_own_line(out: &mut Vec<u8>, style: &Style, line: &[u8]) -> Result<(), AllocError>
-    ensures { OnOk result (out.new.items ≡ out.old.items ++ line_at (plain_style style.now) false Place.Own line.now) }
+    ensures { OnOk result (out.new.items ≡ out.old.items ++ own_line (plain_style style.now) line.now) }
 {
     if line.starts_with(b"diff ") {
         return put_diff_line(out, style, line);
@@ -155,21 +166,39 @@ fn put_own_line(out: &mut Vec<u8>, style: &Style, line: &[u8]) -> Result<(), All
     put(out, line)
 }
 
-/// Puts down what is written of a line, where text is left out or not.
+/// Puts down what is written of a line.
 fn put_line(
     out: &mut Vec<u8>,
     style: &Style,
-    drops: bool,
+    parts: Parts,
     place: Place,
     line: &[u8],
 ) -> Result<(), AllocError>
-    ensures { OnOk result (out.new.items ≡ out.old.items ++ line_at (plain_style style.now) drops place line.now) }
+    ensures { OnOk result (out.new.items ≡ out.old.items ++ line_at (plain_style style.now) parts place line.now) }
 {
     match place {
-        Place::Text => { if drops { Ok(()) } else { put(out, line) } }
-        Place::Own => put_own_line(out, style, line),
-        Place::OldName => put_header_line(out, style, Turn::Old, line),
-        Place::NewName => put_header_line(out, style, Turn::New, line),
+        Place::Text => { if parts.text { put(out, line) } else { Ok(()) } }
+        Place::Own => {
+            if parts.own {
+                put_own_line(out, style, line)
+            } else {
+                Ok(())
+            }
+        }
+        Place::OldName => {
+            if parts.old {
+                put_header_line(out, style, Turn::Old, line)
+            } else {
+                Ok(())
+            }
+        }
+        Place::NewName => {
+            if parts.new {
+                put_header_line(out, style, Turn::New, line)
+            } else {
+                Ok(())
+            }
+        }
     }
 }
 
@@ -180,7 +209,19 @@ fn drops_text(style: &Style, form: Form, text: &[u8]) -> bool
     style.clean && names_behind(form, true, text)
 }
 
+fn all_parts(style: &Style, form: Form, text: &[u8]) -> Parts
+    ensures { result ≡ all_parts (plain_style style.now) form (lines text.now) }
+{
+    Parts {
+        text: !drops_text(style, form, text),
+        own: true,
+        old: true,
+        new: true,
+    }
+}
+
 /// Puts down the lines in front of the hunks of a file patch.
+#[tactic(auto, unfolding(crate::specs::Fronts::front))]
 pub fn put_front(
     out: &mut Vec<u8>,
     style: &Style,
@@ -189,13 +230,85 @@ pub fn put_front(
 ) -> Result<(), AllocError>
     ensures { OnOk result (out.new.items ≡ out.old.items ++ front (plain_style style.now) form (lines text.now)) }
 {
-    let drops = drops_text(style, form, text);
+    put_parts(out, style, form, all_parts(style, form, text), text)
+}
+
+fn is_before(side: Numbered) -> bool
+    ensures { result ≡ is_before side }
+{
+    match side {
+        Numbered::Before => true,
+        Numbered::After => false,
+    }
+}
+
+fn side_parts(all: bool, side: Numbered, form: Form, text: &[u8]) -> Parts
+    ensures { result ≡ side_parts all side form (lines text.now) }
+{
+    let is_before = is_before(side);
+    Parts {
+        text: all || !names_behind(form, true, text),
+        own: true,
+        old: is_before,
+        new: !is_before,
+    }
+}
+
+/// Puts down the lines in front of lines with numbers, with all text or none.
+#[tactic(auto, unfolding(crate::specs::Fronts::side_front))]
+pub fn put_side_front(
+    out: &mut Vec<u8>,
+    style: &Style,
+    all: bool,
+    side: Numbered,
+    form: Form,
+    text: &[u8],
+) -> Result<(), AllocError>
+    ensures { OnOk result (out.new.items ≡ out.old.items ++ side_front (plain_style style.now) all side form (lines text.now)) }
+{
+    put_parts(out, style, form, side_parts(all, side, form, text), text)
+}
+
+fn text_parts() -> Parts
+    ensures { result ≡ text_parts }
+{
+    Parts {
+        text: true,
+        own: false,
+        old: false,
+        new: false,
+    }
+}
+
+/// Puts down the lines in front of the hunks that aren't the file patch's own.
+#[tactic(auto, unfolding(crate::specs::Fronts::text_front))]
+pub fn put_text_front(
+    out: &mut Vec<u8>,
+    style: &Style,
+    form: Form,
+    text: &[u8],
+) -> Result<(), AllocError>
+    ensures { OnOk result (out.new.items ≡ out.old.items ++ text_front (plain_style style.now) form (lines text.now)) }
+{
+    put_parts(out, style, form, text_parts(), text)
+}
+
+/// Puts down these lines in front of the hunks of a file patch.
+fn put_parts(
+    out: &mut Vec<u8>,
+    style: &Style,
+    form: Form,
+    parts: Parts,
+    text: &[u8],
+) -> Result<(), AllocError>
+    ensures { OnOk result (out.new.items ≡ out.old.items ++ lines_behind (plain_style style.now) form parts Place.Text (lines text.now)) }
+{
     let mut at = 0;
     let mut place = Place::Text;
     'lines: while let Some(end) = next_line(text, at) {
         let line = &text[at..end];
         place = place_of(form, place, line, &text[end..]);
-        put_line(out, style, drops, place, line)?;
+        put_line(out, style, parts, place, line)?;
         at = end;
     }
     Ok(())

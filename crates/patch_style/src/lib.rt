@@ -8,5 +8,7 @@ mod names;
 mod rows;
 mod styling;
 
+pub use fronts::{put_front, put_side_front, put_text_front};
+pub use hunks::put_noted;
 pub use memory::Memory;
 pub use styling::{is_plain, restyle};

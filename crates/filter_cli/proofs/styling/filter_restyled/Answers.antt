@@ -1,4 +1,4 @@
-use Rattle.std.proofs.Common.{ap, refl, subst}
+use Rattle.std.proofs.Common.{refl, subst}
 use Rattle.tool_words.specs.PlainJobs.{plain_filter_job, plain_style}
 use Rattle.patch_style.specs.Memory.{memory_view}
 use Rattle.patch_style.specs.Styled.{restyled}

@@ -1,4 +1,4 @@
-use Rattle.std.proofs.Common.{◌≡◌, List, ℕ, map, ap, string_bytes, subst, ◌∙◌}
+use Rattle.std.proofs.Common.{List, ℕ, map, ap, string_bytes, subst, ◌∙◌}
 use Rattle.tool_words.specs.Calls.{calls_of}
 use Rattle.tool_words.proofs.Calling.{calls_some}
 use Rattle.filter_cli.specs.InTurn.{CallRuns, InTurn, devices}

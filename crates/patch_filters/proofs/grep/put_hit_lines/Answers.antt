@@ -1,11 +1,11 @@
-use Rattle.std.proofs.Common.{rules, ◌≡◌, ◌+◌, ◌<◌, ◌≤◌, ◌++◌, false, [], length, get_or, Some, Ok, Err, sym, ap, subst, ◌∙◌, arith}
+use Rattle.std.proofs.Common.{rules, ◌≡◌, ◌+◌, ◌<◌, ◌++◌, false, [], length, get_or, Ok, Err, ap, subst, ◌∙◌, arith}
 use Rattle.std.specs.List.{zip}
 use Rattle.std.proofs.lemmas.Option.{slice_get-get_or}
 use Rattle.file_patch.specs.PlainPatch.{change_of, row_count}
 use Rattle.filter_choice.proofs.Rows.{zip-at, zip-count}
 use Rattle.patch_set.proofs.Named.{rows-counted}
 use Rattle.patch_filters.specs.Filtered.{text_if}
-use Rattle.patch_filters.specs.Grepped.{IsFirst, Finds, hits_of, test_of}
+use Rattle.patch_filters.specs.Grepped.{Finds, hits_of, test_of}
 use Rattle.patch_filters.specs.HunkLines.{hunk_line, hunk_lines}
 use Rattle.patch_filters.proofs.Begun.{hunk-lines-long, line-few, line-next, shown-at}
 use Rattle.patch_filters.proofs.Searching.{same-test, still-kept}

@@ -1,6 +1,4 @@
-use Rattle.std.proofs.Common.{sym, ◌∙◌}
 use Rattle.file_patch.specs.PlainPatch.{change_of}
-use Rattle.std.specs.List.{zip}
 use Rattle.patch_filters.specs.Filtered.{chosen}
 use Rattle.patch_filters.specs.Grepped.{hits_of, test_of}
 use Rattle.patch_filters.specs.HunkLines.{hunk_lines}

@@ -1,4 +1,4 @@
-use Rattle.std.proofs.Common.{ap, ◌∙◌, sym}
+use Rattle.std.proofs.Common.{ap, ◌∙◌}
 use Rattle.hunk_core.specs.PlainHunk.{hunks_of}
 use Rattle.file_patch.specs.PlainPatch.{hunks}
 use Rattle.patch_filters.specs.Listed.{has_no_line}

@@ -1,4 +1,4 @@
-use Rattle.std.proofs.Common.{◌≡◌, ◌++◌, ℕ, Option, List, [], true, false, suc, Some, Ok, Err, sym, ap, subst, ◌∙◌, arith}
+use Rattle.std.proofs.Common.{◌≡◌, ℕ, Option, true, false, suc, Ok, Err, sym, ap, subst, ◌∙◌, arith}
 use Rattle.std.proofs.lemmas.Result.{err_from_is_err_and}
 use Rattle.std.proofs.lemmas.Option.{same_Some}
 use Rattle.std.specs.List.{flat_map}
@@ -6,8 +6,7 @@ use Rattle.outside.specs.Puts.{Puts}
 use Rattle.outside.specs.declared.Failed.{Failed}
 use Rattle.outside.proofs.SinkSteps.{has-none, has-put, puts-done, puts-more, puts-stop}
 use Rattle.file_patch.specs.declared.FilePatch.{FilePatch}
-use Rattle.file_patch.specs.PlainPatch.{header_of, patch_of}
-use Rattle.patch_set.specs.PlainName.{plain_name}
+use Rattle.file_patch.specs.PlainPatch.{patch_of}
 use Rattle.tool_words.specs.PlainJobs.{plain_list_job}
 use Rattle.filter_choice.specs.Selected.{is_selected}
 use Rattle.patch_filters.specs.Filtered.{text_if}

@@ -1,4 +1,4 @@
-use Rattle.std.proofs.Common.{◌≡◌, ◌&&◌, Bool, true, false, IfOk, sym, ap, subst, ◌∙◌}
+use Rattle.std.proofs.Common.{◌≡◌, ◌&&◌, IfOk, sym, ap, subst, ◌∙◌}
 use Rattle.hunk_core.specs.PlainHunk.{bytes_at}
 use Rattle.patch_header.specs.Content.{content}
 use Rattle.patch_filters.specs.Grepped.{test_of}

@@ -1,9 +1,4 @@
-use Rattle.std.proofs.Common.{◌≡◌, [], IfOk, refl, sym, ap, subst, ◌∙◌}
-use Rattle.std.specs.Prelude.{map, if◌then◌else◌}
-use Rattle.std.specs.List.{flat_map, list_any}
-use Rattle.ed_form.specs.PlainEdit.{edits_of}
-use Rattle.patch_header.specs.Content.{content}
-use Rattle.patch_filters.specs.Grepped.{test_of}
+use Rattle.std.proofs.Common.{refl, sym, ◌∙◌}
 use Rattle.patch_filters.proofs.Searching.{asked-none}
 use Rattle.patch_filters.proofs.search.script_has_hit.Goals as goal
 
