@@ -2,13 +2,17 @@
 
 use crate::cut::put_cut;
 use crate::emptied::put_emptied;
+use crate::indents::{put_indented, put_unlike};
 use crate::line_ends::put_line_ends;
 use crate::lines::{Lines, Part};
 use crate::modes::{Taking, put_modes};
+use crate::nuls::put_nuls;
 use crate::ranges::put_ranges;
 use crate::skipped::{put_skipped, put_stack_skipped};
 use crate::state::text_at;
+use patch_header::Ways;
 use patch_options::{Job, Options, read_words};
+use patch_set::ways_of;
 use real_devices::{Disk, Heard, LineEnds, Passed};
 use run_answers::Why;
 use std::fs::File;
@@ -25,10 +29,10 @@ pub struct Ended<'a> {
     pub ends: &'a LineEnds,
 }
 
-/// That the text is cut in its last line, that a line of it opens no hunk though it looks so, and which modes aren't carried
-/// out; of what was left out, that lines end otherwise than those of the patch, why no file was found, and that a
-/// stack keeps no reject files; of `recountdiff`, that an empty line ends a hunk. Where the run was refused, something is said only of a
-/// text without a file patch.
+/// That the text is cut in its last line, that it was read without its indent, that a line of it opens no hunk though it looks so, and
+/// which modes aren't carried out; of what was left out, that lines end otherwise than those of the patch, why no file was found, and
+/// that a stack keeps no reject files; of `recountdiff`, that an empty line ends a hunk. Where the run was refused, something is said
+/// only of a text without a file patch.
 pub fn put_texts<R: Files>(
     lines: &mut Lines,
     rt: &R,
@@ -70,13 +74,19 @@ fn put_of_patch<R: Files>(
         is_reversed: options.reverse,
     };
     match ended.why {
-        Why::Done | Why::Rejected => {
-            put_cut(lines, passed);
+        Why::Done => {
+            put_read(lines, options, passed);
+            put_modes(lines, "patch", taking, passed);
+        }
+        Why::Rejected => {
+            put_read(lines, options, passed);
             put_taken(lines, "patch", taking, passed);
         }
         Why::Garbage => {
+            put_unlike(lines, "patch", passed.front());
             put_ranges(lines, "patch", passed.front());
             put_modes(lines, "patch", taking, passed);
+            put_nuls(lines, "patch", options, passed.front());
         }
         _ => {}
     }
@@ -84,6 +94,15 @@ fn put_of_patch<R: Files>(
         put_line_ends(lines, "patch", ended, passed.front(), options.keep_returns);
         put_skipped(lines, rt, options, ended.heard, passed);
     }
+}
+
+/// What is said of how a text was read: that its last line is cut, that it had an indent, and that a line of it has a byte 0.
+fn put_read(lines: &mut Lines, options: &Options, passed: &Passed) {
+    put_cut(lines, passed);
+    if !options.silent {
+        put_indented(lines, "patch", ways_of(options), passed.front());
+    }
+    put_nuls(lines, "patch", options, passed.front());
 }
 
 /// What is said of the lines of a text.
@@ -94,7 +113,11 @@ fn put_taken(lines: &mut Lines, tool: &str, taking: Taking, passed: &Passed) {
 
 fn put_of_stack<R: Files>(lines: &mut Lines, rt: &R, ended: Ended<'_>, passed: &Passed) {
     match ended.why {
-        Why::Done | Why::Garbage => put_pushed(lines, passed),
+        Why::Done => put_pushed(lines, passed),
+        Why::Garbage => {
+            put_unlike(lines, "patchstack", passed.front());
+            put_pushed(lines, passed);
+        }
         Why::Rejected => {
             put_pushed(lines, passed);
             put_line_ends(lines, "patchstack", ended, passed.front(), false);
@@ -110,6 +133,12 @@ fn put_pushed(lines: &mut Lines, passed: &Passed) {
         strip: Some(1),
         is_reversed: false,
     };
+    let ways = Ways {
+        only: None,
+        git: true,
+        skip_binary: false,
+    };
+    put_indented(lines, "patchstack", ways, passed.front());
     put_taken(lines, "patchstack", taking, passed);
 }
 

@@ -1,4 +1,4 @@
-//! The words that the program was called with, as the system gives them, and the texts that help whoever called it.
+//! The words that the program was called with, and the texts that help its caller. The words are as the system gives them.
 #![tactic(auto)]
 
 mod barred;
@@ -9,12 +9,14 @@ mod cut;
 mod emptied;
 mod ended;
 mod help;
+mod indents;
 mod lacking;
 mod line_ends;
 mod lines;
 mod mending;
 mod modes;
 mod names;
+mod nuls;
 mod pattern;
 mod places;
 mod ranges;

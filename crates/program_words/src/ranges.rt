@@ -7,12 +7,12 @@ use unified_form::at_opening;
 const NO_RANGE: &str =
     "line # looks like the range of a hunk and is none: what stands from there to the next file patch isn't applied";
 
-/// A line for the first of the text, behind its first one, that begins like a range of the unified form and isn't one.
+/// A line for the first of the text that begins like a range of the unified form and isn't one.
 pub fn put_ranges(lines: &mut Lines, tool: &str, text: &[u8]) {
     let mut number = 0u64;
     for line in text.split(is_feed) {
         number = number.saturating_add(1);
-        if number > 1 && line.starts_with(b"@@ -") && !at_opening(line, 0) {
+        if line.starts_with(b"@@ -") && !at_opening(line, 0) {
             lines.put_said(tool, NO_RANGE, Part::Number(number));
             break;
         }

@@ -68,27 +68,17 @@ fn first_of(rows: &[(bool, &'static str)]) -> Option<&'static str> {
 }
 
 fn of_filter(job: &FilterJob) -> Option<&'static str> {
-    first_of(&[
-        (job.verbose, "-v"),
-        (job.marks.annotate, "--annotate"),
-        (job.marks.numbered.is_some(), "--as-numbered-lines"),
-    ])
+    first_of(&[(job.verbose && job.format.is_some(), "-v")])
 }
 
 fn of_grep(job: &GrepJob) -> Option<&'static str> {
-    first_of(&[
-        (job.pattern_file.is_some(), "-f"),
-        (job.marks.annotate, "--annotate"),
-        (job.marks.numbered.is_some(), "--as-numbered-lines"),
-    ])
+    first_of(&[(job.pattern_file.is_some(), "-f")])
 }
 
+/// Without `-a` a part begins where a name comes again, and names are compared as they are written.
 fn of_split(job: &SplitJob) -> Option<&'static str> {
     first_of(&[
-        (job.names.by_name, "-d"),
-        (job.names.directory.is_some(), "-D"),
-        (job.names.bare, "-E"),
-        (job.names.strip > 0, "-p"),
+        (job.names.strip > 0 && !job.every, "-p"),
         (job.verbose, "-v"),
     ])
 }
