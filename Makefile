@@ -37,6 +37,7 @@ try:
 
 # The gate leaves the program that it built where the build looks first, so nothing is proved twice.
 test:
+	@python3 tests/map
 	@python3 tests/proofs gate $(RT) ci
 	@$(MAKE) --no-print-directory all
 	@sh tests/real_files $(BIN)
