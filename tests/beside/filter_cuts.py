@@ -9,9 +9,9 @@ SEPARATOR = b'=== part\n'
 
 
 def parts_left(left):
-    """The parts that a call left, in their order, one text with a line in front of each."""
-    names = sorted(name for name in left.shape if re.fullmatch(rb'p\.part\d+(\.patch)?', name))
-    return b''.join(SEPARATOR + left.shape[name][2] for name in names)
+    """The parts that a call left, in the order in which their names were told, one text with a line in front of each."""
+    told = dict.fromkeys(re.sub(rb'^Wrote >+', b'', line) for line in lines_of(left.out[0]))
+    return b''.join(SEPARATOR + left.shape[name][2] for name in told if left.shape.get(name, ('',))[0] == 'file')
 
 
 @change(CUT, 'files-without-hunks')

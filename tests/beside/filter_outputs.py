@@ -1,7 +1,7 @@
 """Changes of patch texts that filters print: each takes one cause of a difference away, from both outputs alike."""
 import re
 
-from filter_parts import BEGINS, HALF, RANGES, STARS, file_patches, joined, lines_of, parts, with_hunks
+from filter_parts import BEGINS, GIT_LINES, HALF, RANGES, STARS, file_patches, joined, lines_of, parts, with_hunks
 from filter_patterns import chosen_otherwise, without_patches
 
 WRITTEN, FORMATTED, FOUND, RECOUNTED = [], [], [], []
@@ -74,6 +74,24 @@ def of_length(line):
 def without_new_blocks(case, out):
     """No block of git with a new file's mode, which patchutils takes for text."""
     return joined(part for part in parts(out) if part.kind != 'block' or not any(line.startswith(b'new file mode') for line in part.lines))
+
+
+def numbers_lines(case):
+    """Whether lines are numbered."""
+    return any(word.startswith('--as-numbered-lines') for word in case.runs[0].words)
+
+
+@change(WRITTEN, 'patchutils-slips')
+def without_git_lines(case, out):
+    """No lines of git headers where lines are numbered: patchutils loses those of a new file."""
+    lost = (b'diff --git ', *GIT_LINES)
+    return b'\n'.join(line for line in lines_of(out) if not line.startswith(lost)) if numbers_lines(case) else out
+
+
+@change(WRITTEN, 'as-numbered-lines')
+def without_backslash_lines(case, out):
+    """No backslash line with a number."""
+    return b'\n'.join(line for line in lines_of(out) if not re.fullmatch(rb'\d+\t: No newline at end of file', line)) if numbers_lines(case) else out
 
 
 @change(WRITTEN, 'patchutils-slips')

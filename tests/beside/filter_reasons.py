@@ -108,9 +108,17 @@ def cut(case, theirs, ours, found):
     one, other = parts_left(theirs), parts_left(ours)
     if b'nothing to do' in theirs.out[0]:
         return uncut(case, other) if not one else []
+    if b'Wrote >>' in theirs.out[0] and same_lines(one, other):
+        return ['split-names']
     keys = fewest(case, one, other, WRITTEN + CUT) if one != other else ['split-names']
     keys = keys or (['patchutils-slips'] if lost_end(case, one, other) else [])
     return sorted({*keys, 'split-names'}) if keys else []
+
+
+def same_lines(one, other):
+    """Whether parts have the same lines in all: where a name comes again patchutils puts a part behind the first with that name."""
+    one, other = (sorted(lines_of(parts.replace(SEPARATOR, b''))) for parts in (one, other))
+    return one == other
 
 
 def lost_end(case, one, other):

@@ -11,7 +11,7 @@ LETTERS = {
     'lsdiff': {'z': 'filter-words'},
     'grepdiff': dict.fromkeys('Nfz', 'filter-words'),
     'filterdiff': {'v': 'text-between', 'z': 'filter-words', 'n': 'filter-words'},
-    'splitdiff': dict.fromkeys('dDEpv', 'split-names'),
+    'splitdiff': dict.fromkeys('pv', 'split-names'),
     'recountdiff': {},
 }
 VERBOSE = {'filterdiff': 'text-between'}

@@ -7,7 +7,8 @@ from patch_reading import all_names, parts_of, text_of
 from seen import refused as refused_whole, untouched
 
 REASONS = Reasons()
-INDENTED = re.compile(rb"(?m)^[ \t]+(?:\*\*\*|---|\+\+\+) \S")
+HEADER = re.compile(rb"(?m)^[ \t]*(?:\*\*\*|---|\+\+\+|diff|Index:|Prereq:) \S")
+INDENTED = re.compile(rb"(?m)^([ \t]+)(?:\*\*\*|---|\+\+\+|diff|Index:|Prereq:) \S")
 DAMAGED = ("mangled_context", "cut_text", "numbers", "headerless", "lost_blanks", "indented", "nul_bytes")
 COMMAND = re.compile(rb"(?m)^\d+(?:,\d+)?[acd]\d*$")
 
@@ -19,13 +20,16 @@ def refused(case, gnu, ours):
 
 def is_context(case):
     """Returns whether the text is of the context form."""
-    return re.search(rb"(?m)^\*\*\* \d+(,\d+)? \*\*\*\*", text_of(case)) is not None
+    return re.search(rb"(?m)^[ \t]*\*\*\* \d+(,\d+)? \*\*\*\*", text_of(case)) is not None
 
 
 @REASONS.of("indented")
 def indented(case, _gnu, ours, differences):
-    """An indented patch is none here, and what lost its indent isn't whole."""
-    return differences if INDENTED.search(text_of(case)) and untouched(case, ours) and ours.status != [0] else []
+    """An indented patch, a line of which has less in front, is none here."""
+    text = text_of(case)
+    found, first = INDENTED.search(text), HEADER.search(text)
+    lacks = found and any(line.strip(b"\r\n") and not line.startswith(found[1]) for line in text[first.start():].splitlines(True))
+    return differences if lacks and untouched(case, ours) and ours.status != [0] else []
 
 
 @REASONS.of("prereq")
@@ -58,7 +62,7 @@ def malformed(case, gnu, ours, differences):
 @REASONS.of("mangled-context")
 def mangled_context(case, gnu, ours, differences):
     """A context hunk whose halves differ by a lost blank, or that has lost lines of a half, its end or its row of stars, is refused here."""
-    mangled = case.kind in ("mangled_context", "cut_text") and is_context(case)
+    mangled = case.kind in ("mangled_context", "cut_text", "indented") and is_context(case)
     return differences if mangled and refused(case, gnu, ours) else []
 
 
