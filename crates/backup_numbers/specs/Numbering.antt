@@ -24,7 +24,8 @@ unfoldable pub greatest_below : (ℕ → Bool) → ℕ → ℕ
 greatest_below test zero = 0
 greatest_below test (suc n) = if test n then n else greatest_below test n
 
--- the greatest number that a backup of the name has, of those below the largest u64, and 0 where none has one
+-- the greatest number that a backup of the name has, of those below the largest u64, and 0 where none has one. A backup
+-- that the run makes itself isn't seen. A directory that can't be read ends the run there, before the first change
 abbrev pub last_number : Files → List ℕ → ℕ
 last_number files name = greatest_below (λ n. is_some (get files (numbered name n))) (2 ^ 64 - 1)
 

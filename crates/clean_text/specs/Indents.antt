@@ -90,6 +90,9 @@ unfoldable pub loses_indent : Ways → List ℕ → Bool
 loses_indent ways text =
     not (stays text) && is_indented ways (indent_of (lines text)) text (completed (bare_text text)) (completed (bare_text (without_indent (indent_of (lines text)) text)))
 
+-- the text without its indent: these very bytes, not columns, so no line is guessed. A line outside of file patches that
+-- begins like a header behind more blanks has the text refused: a file patch would be lost in silence. A range line tells
+-- an indent too; a row of stars or a command alone doesn't. A fault of the text without its indent is told
 unfoldable pub unindented : Ways → List ℕ → List ℕ
 unindented ways text = if loses_indent ways text then without_indent (indent_of (lines text)) text else text
 

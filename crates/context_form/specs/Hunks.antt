@@ -121,6 +121,8 @@ hunk_at least p = first_hunk least p.number p.rest
 abbrev pub hunks_at : ℕ → ℕ → Ahead → Result (List PlainHunk × Ahead) Fault
 hunks_at most least p = hunks_by begins_hunk hunk_at most least p
 
--- the hunks at the front of these lines, and what stands behind them, or the first fault
+-- the hunks at the front of these lines, and what stands behind them, or the first fault. The tests over both parts come
+-- once both are read: old count, new count, whether they differ. Those on a range line come before. One number states no
+-- count; a part that is left out has that of the lines that the other one keeps
 abbrev pub reading : ℕ → List (List ℕ) → Result (List PlainHunk × Ahead) Fault
 reading number rest = reading_by begins_hunk hunk_at number rest

@@ -35,7 +35,8 @@ mark_at side (b ∷ c ∷ bytes) = if c == 32 then mark_by side b else None
 abbrev pub Shown : Type 0
 Shown = Marked × Bool
 
--- what stands behind a mark, without one blank or tab, if that comes first
+-- what stands behind a mark, without one blank or tab, if that comes first. `diff -T` writes a tab behind a mark, so a line
+-- of text that begins with a tab loses it where its blank is lost, as with GNU patch
 abbrev pub behind_blank : List ℕ → List ℕ
 behind_blank [] = []
 behind_blank (c ∷ bytes) = if c == 32 then bytes else if c == 9 then bytes else c ∷ bytes

@@ -46,7 +46,9 @@ tells_other s old = old.changed || (length old.lines == 0 || not (is_count s (ke
 abbrev pub is_needed : Stated → PlainBody → Bool
 is_needed s old = not (most s == 0) && tells_other s old
 
--- whether the new part is there, where blanks may be lost: a line that lost its blank begins no part that can be left out
+-- whether the new part is there, where blanks may be lost: a line that lost its blank begins no part that can be left out.
+-- So an empty line behind a hunk, as in mails, stays outside. A line that begins with `--- ` ends the old part, also where
+-- it is `-` with a lost blank
 abbrev pub is_new : Stated → PlainBody → List (List ℕ) → Bool
 is_new s old rest = is_there s old.lines rest || (is_needed s old && begins_shown rest)
 

@@ -64,7 +64,9 @@ SpellsAdded Add own added others = (turns : ℕ) × SpellsText turns own added o
 SpellsAdded Change own added others = (turns : ℕ) × SpellsText turns own added others
 SpellsAdded Delete own added others = (own ≡ []) × (added ≡ [])
 
--- behind line N, one number; or lines from first to last, one number or two with a comma
+-- behind line N, one number; or lines from first to last, one number or two with a comma. A command has addresses and no
+-- counts, so `4294967295d` is lawful and `4294967295a` too large. An insertion at N counts as N in the order of commands,
+-- so `5a` and then `5d` are out of order
 abbrev pub SpellsAddresses : Action → List ℕ → ℕ → ℕ → Type 0
 SpellsAddresses Add text first last = IsNumeral text last × (first ≡ last + 1)
 SpellsAddresses Change text first last = (single : Bool) × SpellsRange text single first last × (1 ≤ first) × (first ≤ last)

@@ -55,7 +55,8 @@ unfoldable pub edits_at : ℕ → ℕ → Ahead → Result (List PlainEdit × Ah
 edits_at zero below p = no_edits p
 edits_at (suc most) below p = if begins_script p.rest then (edit_at below p >>= λ first. edits_at most (lowest first.0) first.1 >>= λ others. Ok (first.0 ∷ others.0, others.1)) else no_edits p
 
--- the edits at the front of these lines, and what stands behind them, or the first fault
+-- the edits at the front of these lines, and what stands behind them, or the first fault. `1,2a` is a bad range. A second
+-- `s/.//` finds a last line `.` and is out of scope; `a` behind a `.` without `s/.//` ends the script
 abbrev pub reading : ℕ → List (List ℕ) → Result (List PlainEdit × Ahead) Fault
 reading number rest = edits_at (length rest) (2 ^ 32) (ahead number rest)
 

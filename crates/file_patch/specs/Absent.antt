@@ -20,7 +20,7 @@ abbrev pub stamp_on : Side → PlainHeader → Stamp
 stamp_on Forward h = h.old_stamp
 stamp_on Reversed h = h.new_stamp
 
--- `/dev/null`
+-- `/dev/null` as it is written, without quotes: no tool puts it in some
 abbrev pub is_null : Option (List ℕ) → Bool
 is_null None = false
 is_null (Some name) = bytes_eq name (codes "/dev/null")

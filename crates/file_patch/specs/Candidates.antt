@@ -31,7 +31,8 @@ header_candidate strip text = option_and_then (left_if_file strip) (name_of text
 abbrev pub header_names : Option ℕ → Option (List ℕ) → List (List ℕ)
 header_names strip text = option_to_list (option_and_then (header_candidate strip) text)
 
--- the name of the index line, which counts with option --posix, and without it where neither header line gave a name
+-- the name of the index line, which counts with option --posix, and without it where neither header line gave a name. One
+-- that says `/dev/null` gave a name; `Index: /dev/null` is a name as any other
 abbrev pub index_beside : Bool → Option (List ℕ) → Option (List ℕ) → Option (List ℕ) → Option (List ℕ)
 index_beside posix old new index = if posix || (is_none old && is_none new) then index else None
 

@@ -13,7 +13,8 @@ unfoldable pub behind_slash : List ℕ → Option (List ℕ)
 behind_slash [] = None
 behind_slash (b ∷ bs) = if is_slash b then Some (without_slashes bs) else behind_slash bs
 
--- what stands behind so many slashes, adjacent ones counting as one; None where there are fewer
+-- what stands behind so many slashes, adjacent ones counting as one; None where there are fewer. A run of slashes is
+-- stripped whole: a front that ended within it would leave an absolute text
 unfoldable pub behind_slashes : ℕ → List ℕ → Option (List ℕ)
 behind_slashes zero text = Some text
 behind_slashes (suc n) text = option_and_then (behind_slashes n) (behind_slash text)

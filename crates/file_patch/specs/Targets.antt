@@ -56,7 +56,8 @@ abbrev pub shown_from : Option (List ℕ) → List ℕ → ℕ
 shown_from None name = 0
 shown_from (Some directory) name = if is_absolute name then 0 else suc (length directory)
 
--- each name is formed without the directory, and then put below it
+-- each name is formed without the directory, and then put below it. Messages show an absolute name whole, so those of a
+-- target and its reject file may be cut at different places. Before an absolute name `-B .pc/x/` gives `.pc/x/usr/f`
 abbrev pub target_of : PlainOptions → List ℕ → ℕ → Target
 target_of o name number = record {
   number = number;

@@ -165,8 +165,8 @@ pub fn run_grep<T: Tree, F: Finder, I: Source, O: Sink>(
     }
 }
 
-/// Leaves what was read to the end of the process, which a filter comes to next: to give the memory of many file patches or hunks back takes
-/// a tenth of a run.
+/// Leaves what was read to the end of the process, which a filter comes to next: to give the memory of many file patches or
+/// hunks back takes a tenth of a run. So a run over several FILEs holds all texts at its end.
 pub fn leave<V: Drop>(opened: Option<V>) {
     forget(opened);
 }

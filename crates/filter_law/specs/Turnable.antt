@@ -1,4 +1,6 @@
--- Hunks that can be taken back by turning each of them round (GNU diffutils manual, "Applying Reversed Patches").
+-- Hunks that can be taken back by turning each of them round (GNU diffutils manual, "Applying Reversed Patches"). That
+-- hunks undo themselves is said of them as they were read, in context and normal patches too, before their lines come into
+-- the order in which these forms show them.
 use Rattle.std.specs.Prelude.{◌≡◌, ◌⊎◌, ℕ, ◌+◌, ◌<◌, ◌≤◌, ℤ, pos, ◌+ℤ◌, ◌-ℤ◌, List, [], ◌∷◌, length, false}
 use Rattle.std.specs.List.{AllByRecursion}
 use Rattle.line_list.specs.Lines.{IsLine, IsOpenLine}

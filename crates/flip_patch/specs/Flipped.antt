@@ -30,6 +30,7 @@ swapped_hunks (script es) = []
 abbrev pub flipped_patch : List ℕ → FilePatch → List ℕ
 flipped_patch text p = header_text text p.header.form Reversed p.header ++ flat_map (hunk_text p.header.form) (swapped_hunks (change_of text p.change))
 
--- the file patches from the last to the first, each turned round
+-- the file patches from the last to the first, each turned round. Written is what they are, and not their text: lines in
+-- front that are no names, `Prereq:` lines and what a git header says are left out
 unfoldable pub flipped : SetView → List ℕ
 flipped v = flat_map (flipped_patch v.text) (reverse v.patches)

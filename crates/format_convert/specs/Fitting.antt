@@ -72,7 +72,9 @@ has_open_line wanted hs = (is_ed wanted && has_open (changed_lines Reversed hs))
 
 -- ---- what doesn't fit
 
--- the change can't be written as commands of this form. A script has no old lines that could fall back or lack a line feed, and the lines that it adds have theirs; it is written as a script alone
+-- the change can't be written as commands of this form. A script has no old lines that could fall back or lack a line feed,
+-- and the lines that it adds have theirs; it is written as a script alone. A dropped line without its line feed isn't shown
+-- in an ed script, but is refused where it isn't the last: no file has such a line
 abbrev pub is_unfit : Form → PlainChange → Bool
 is_unfit wanted (hunks hs) = falls_back hs || (has_open_line wanted hs || has_large_command wanted (blocks_in (hunks hs)))
 is_unfit wanted (script es) = is_ed wanted && list_any is_large_ed (blocks_in (script es))

@@ -56,7 +56,8 @@ target_place reverse = if reverse then 0 else 1
 abbrev pub source_of : Bool → Action → List Target → Option ℕ
 source_of reverse action targets = if is_moved action then number_at targets (source_place reverse) else None
 
--- the file that is made or changed: of a rename or a copy the new one
+-- the file that is made or changed: of a rename or a copy the new one. A file patch of git that hunks follow directly, and
+-- whose file another form's lines name too, counts by the first of its names
 abbrev pub made_by : Bool → Action → List Target → Option ℕ
 made_by reverse action targets = number_at targets (if is_moved action then target_place reverse else 0)
 

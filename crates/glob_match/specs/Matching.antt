@@ -3,7 +3,7 @@ use Rattle.std.specs.Prelude.{◌≡◌, ℕ, ◌+◌, ◌≤◌, Bool, true, fa
 use Rattle.std.specs.List.{list_any, range_with_len}
 use Rattle.glob_match.specs.Pattern.{Element, Run, Any, Byte, OneOf, elements}
 
--- the byte is a member: one of the bytes, or in a range `a-z`
+-- the byte is a member: one of the bytes, or in a range `a-z`; a backslash is a member as any other byte
 unfoldable pub is_member : List ℕ → ℕ → Bool
 is_member [] byte = false
 is_member (a ∷ []) byte = a == byte

@@ -222,9 +222,10 @@ fn matches_after_run(pattern: &[u8], start: usize, name: &[u8], from: usize) -> 
     }
 }
 
-/// Whether the pattern matches the whole name, byte by byte: `*` any run of bytes, slashes too; `?` one byte;
-/// `[..]` one byte of a set with ranges, `!` or `^` in front for the opposite, a first `]` being a member;
-/// a backslash the next byte itself. A `[` without an end, and a backslash at the end, stand for themselves.
+/// Whether the pattern matches the whole name, byte by byte: `*` any run of bytes, slashes too; `?` one byte; `[..]` one byte
+/// of a set with ranges, `!` or `^` in front for the opposite, a first `]` being a member; a backslash the next byte itself. A
+/// `[` without an end, and a backslash at the end, stand for themselves. Of the `*` that were passed the last alone is kept: an
+/// earlier one never helps what stands behind.
 pub fn matches(pattern: &[u8], name: &[u8]) -> bool
     ensures relation { IsTrue result ↔ Matches pattern.now name.now }
     ensures test { result ≡ does_match pattern.now name.now }

@@ -68,7 +68,9 @@ abbrev pub begins_quoted : List ℕ → Bool
 begins_quoted [] = false
 begins_quoted (b ∷ bs) = b == 34
 
--- the name that a text in a header stands for: what is spelled in quotes, or the text as it is
+-- the name that a text in a header stands for: what is spelled in quotes, or the text as it is. What stands behind the last
+-- quote is passed over in header and `Index:` lines, and makes the line of a rename or a copy name no file. A header line
+-- whose quotes are no string of C gives no stamp either
 abbrev pub name_of : List ℕ → Option (List ℕ)
 name_of text = if begins_quoted text then unquoted text else Some text
 

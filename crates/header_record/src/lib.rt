@@ -25,7 +25,9 @@ pub enum Action {
     Copy,
 }
 
-/// The opening of a file patch or a bare git header, and what the lines in front of it say. Spans are places in the text.
+/// The opening of a file patch or a bare git header, and what the lines in front of it say. Spans are places in the text. A
+/// bare git header has no stamps; its `Index:` and `Prereq:` lines stand in front of its git line. A file that is new or
+/// deleted has no names of rename lines.
 #[derive(Clone, Copy, Debug)]
 pub struct Header {
     pub form: Form,

@@ -9,7 +9,9 @@ use Rattle.ed_form.specs.PlainEdit.{PlainEdit, lowest}
 abbrev pub edited : List (List ℕ) → PlainEdit → List (List ℕ)
 edited lines e = take (e.first - 1) lines ++ (e.added ++ drop e.last lines)
 
--- the commands carried out one after another, each on what those before it left (GNU diffutils manual, "Detailed Description of ed Scripts")
+-- the commands carried out one after another, each on what those before it left (GNU diffutils manual, "Detailed
+-- Description of ed Scripts"). A last line that is kept without its line feed stays so, where GNU `ed` adds it. The
+-- verdict's place is the lower of the first command's addresses, 0 for `0a`
 unfoldable pub scripted : List (List ℕ) → List PlainEdit → List (List ℕ)
 scripted lines [] = lines
 scripted lines (e ∷ es) = scripted (edited lines e) es

@@ -66,7 +66,8 @@ fn place_in(guess: i64, consumed: u64, count: u64) -> Option<u64>
     Some(at)
 }
 
-/// Whether a line that is compared with any fuzz up to `most` stands nowhere behind what was consumed. No place fits then.
+/// Whether a line that is compared with any fuzz up to `most` stands nowhere behind what was consumed. No place fits then. The
+/// line is the middle one of those that every fuzz compares.
 pub fn fits_nowhere<S: LineStore>(
     store: &mut S,
     text: &[u8],

@@ -20,9 +20,10 @@ use hunk_core::{Side, Verdict};
 use line_store::LineStore;
 use outside::Sink;
 
-/// Writes the store's lines and those that a file patch adds where its hunks were placed, parted by conditions on the
-/// name `define`. The verdicts are those of applying the file patch to this store. The store's lines are lent to the
-/// sink one by one.
+/// Writes the store's lines and those that a file patch adds where its hunks were placed, parted by conditions on the name
+/// `define`. The verdicts are those of applying the file patch to this store. The store's lines are lent to the sink one by
+/// one. Over a store that tells nothing lines that it doesn't count are left out, so that the call is safe whatever the
+/// verdicts say.
 pub fn put_ifdef<S: LineStore, O: Sink>(
     store: &mut S,
     text: &[u8],

@@ -17,7 +17,7 @@ abbrev pub marks : Side → List ℕ
 marks Forward = 60 ∷ 32 ∷ []
 marks Reversed = 62 ∷ 32 ∷ []
 
--- a line of this side has its mark
+-- a line of this side has its mark. Where such a line or `---` must stand a backslash line is misplaced, behind `---` too
 abbrev pub must_be_marked : ℕ → Side → List ℕ → Option (List ℕ) → Result Marked Fault
 must_be_marked number side line (Some bytes) = Ok (marked (own_mark side) bytes)
 must_be_marked number side line None = Err (fault number (unmarked line))

@@ -1,4 +1,5 @@
-//! The first or last line that is the same as another one, looked for page by page.
+//! The first or last line that is the same as another one, looked for page by page. A pass stops before a record that isn't
+//! whole, and the slow way then says why.
 
 ghost use Rattle.std.specs.Prelude.{◌≡◌, ◌≢◌, ◌≤◌, ◌<◌, ◌+◌, ◌^◌, ℕ, List, length, true, false, None, Some, IfErr, IfOk, IfSome, OnOk, OnErr};
 ghost use Rattle.line_store.specs.declared.Half.{Half};

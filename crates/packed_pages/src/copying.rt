@@ -1,4 +1,5 @@
-//! The second reading of a file: its lines copied into records.
+//! The second reading of a file: its lines copied into records. Each full page is written with its entry of the index, so the
+//! two agree also where the tree tells nothing. Entry 0 is never read.
 
 ghost use Rattle.std.specs.Prelude.{◌≡◌, ◌≢◌, ◌≤◌, ◌<◌, ◌+◌, ◌-◌, ◌*◌, ◌^◌, ◌++◌, ◌∷◌, [], ℕ, List, length, take, drop, replicate, slice_range, Some, IfOk, IfErr, OnOk};
 ghost use Rattle.line_list.specs.Lines.{lines};

@@ -28,7 +28,8 @@ pub struct PageMarks {
     pub from: usize,
 }
 
-/// The marks of the page that each half holds.
+/// The marks of the page that each half holds. Where a search goes downwards each stretch of a page is walked twice, and not
+/// once for each line. A mark is right by itself, whatever marks were kept or dropped.
 #[derive(Drop)]
 pub struct Marks {
     pub first: PageMarks,

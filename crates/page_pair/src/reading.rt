@@ -22,7 +22,8 @@ pub fn size_of<T: Tree>(tree: &mut T, name: &Name) -> Result<u64, OpenFault>
     Ok(tree.size(name)?.unwrap_or(0))
 }
 
-/// Reads a file of `length` bytes from a place on into the first page, as far as the page or the file goes.
+/// Reads a file of `length` bytes from a place on into the first page, as far as the page or the file goes. A piece begins
+/// where the first line begins that isn't whole yet, so the bytes of a line that is cut are read again.
 pub fn read_piece<T: Tree>(
     pair: &mut PagePair,
     tree: &mut T,

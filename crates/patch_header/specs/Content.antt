@@ -7,7 +7,8 @@ use Rattle.hunk_core.specs.LineTests.{after, ends_line}
 abbrev pub content : List ℕ → List ℕ
 content line = if ends_line line then take (length line - 1) line else line
 
--- 'GIT binary patch', or 'Binary files ' in front and ' differ' at the end
+-- 'GIT binary patch', or 'Binary files ' in front and ' differ' at the end. `Binary files differ`, where both share the
+-- space, is one
 abbrev pub is_binary : List ℕ → Bool
 is_binary line = bytes_eq (content line) (codes "GIT binary patch") || (is_some (after (codes "Binary files ") (content line)) && ends_with nat_eq (content line) (codes " differ"))
 

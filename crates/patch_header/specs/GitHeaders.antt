@@ -88,7 +88,9 @@ has_names run (line ∷ rest) = starts (codes "--- ") line && (old_fits run line
 abbrev pub leads : List (List ℕ) → List (List ℕ) → Bool
 leads run ls = begins_hunk ls || has_names run ls
 
--- a bare git header begins these lines: it leads nothing that follows it directly, and asks for something on its own
+-- a bare git header begins these lines: it leads nothing that follows it directly, and asks for something on its own. It is
+-- judged by its lines, whatever form is asked for. `GIT binary patch` behind it is a fault behind that file patch. Lines of
+-- names in front of a header that hunks follow directly say nothing
 unfoldable pub begins_bare : List (List ℕ) → Bool
 begins_bare [] = false
 begins_bare (line ∷ rest) = is_git_line line && (not (leads (extended_run rest) (behind_run rest)) && asks_alone (extended_run rest))

@@ -41,7 +41,9 @@ tells one two line = is_some (after one (content line)) || is_some (after two (c
 abbrev pub is_free : List ℕ → Bool
 is_free name = bytes_eq name [] || bytes_eq name (codes "/dev/null")
 
--- any name fits extended lines that give none to its side
+-- any name fits extended lines that give none to its side. A prefix without a slash, as of `--src-prefix=old-`, makes
+-- another name. `filterdiff --addprefix` and people who edit header lines leave the git line as it was, so that one isn't
+-- compared
 abbrev pub fits : List ℕ → List ℕ → List (List ℕ) → List ℕ → Bool
 fits one two run name = not (list_any (tells one two) run) || (is_free name || list_any (gives name one two) run)
 

@@ -38,7 +38,8 @@ last_tail mark rs = first_some (tail_of mark) (reverse rs)
 abbrev pub later : {A : Type 0} → Option A → Option A → Option A
 later last new = if is_some new then new else last
 
--- the last line of each kind
+-- the last line of each kind. Each line `*** ` of the region counts. Where one form is asked for the lines of others are of
+-- the region of the next file patch
 abbrev pub seen_in : List Row → Seen
 seen_in rs = record {
   minus = last_tail (codes "--- ") rs;

@@ -39,7 +39,8 @@ length_or bare bytes = if begins_quoted bytes then unwrap_or (quoted_length byte
 abbrev pub name_length : List ℕ → ℕ
 name_length bytes = length_or (bare_length bytes) bytes
 
--- in an `Index:` line it goes up to the first tab, else up to the end
+-- in an `Index:` line it goes up to the first tab, else up to the end. GNU patch takes no name that ends in a blank or a
+-- tab; here a tab ends it, since the filters write one behind a name with a space
 abbrev pub index_length : List ℕ → ℕ
 index_length bytes = length_or (first (λ b. b == 9) bytes) bytes
 
@@ -55,7 +56,8 @@ span_at start len = if len == 0 then None else Some (record { start = start; end
 abbrev pub bytes_of : List ℕ → Tail → List ℕ
 bytes_of text t = slice_range text t.start t.end
 
--- the name behind the blanks
+-- the name behind the blanks. A last line of its kind with an empty name counts, and gives none. A carriage return is part
+-- of a name, but ends the word of `Prereq:`
 abbrev pub name_in : List ℕ → Option Tail → Option Span
 name_in text None = None
 name_in text (Some t) = span_at (t.start + blanks (bytes_of text t)) (name_length (unblanked (bytes_of text t)))

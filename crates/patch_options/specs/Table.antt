@@ -38,6 +38,7 @@ one_if b = if b then 1 else 0
 abbrev pub forms_named : List Row → ℕ
 forms_named rows = one_if (is_used rows (codes "context")) + one_if (is_used rows (codes "ed")) + one_if (is_used rows (codes "normal")) + one_if (is_used rows (codes "unified"))
 
+-- `--quiet` only asks for silence, so with `--verbose` it is taken, and silence wins; `--silent` isn't
 abbrev pub exclusions_hold : List Row → Bool
 exclusions_hold rows = not (are_both_used rows (codes "backup-if-mismatch") (codes "no-backup-if-mismatch")) && not (are_both_used rows (codes "silent") (codes "verbose"))
 
@@ -151,7 +152,8 @@ abbrev pub input_of : Option Text → Input
 input_of None = Standard
 input_of (Some text) = if bytes_eq text (codes "-") then Standard else File (given_form text)
 
--- the directory, none where it is the working directory
+-- the directory, none where it is the working directory. A value of which no component is left is as if there were none,
+-- unless it is empty or begins with a slash. `/` is refused: names below it would need a second form of joining
 abbrev pub directory_of : Text → Option Text
 directory_of text = if is_here text then None else Some (given_form text)
 

@@ -25,7 +25,8 @@ whole_job words = if takes patch_command words then matched_job (rows_by patch_c
 unfoldable pub patch_job : List Text → Result PlainJob WordFault
 patch_job words = whole_job (whole_words patch_table words)
 
--- what the words ask for; the first is `patch`
+-- what the words ask for; the first is `patch`. `clap` takes one `=` off a value attached to a letter: `-p=5` is 5, and
+-- `-p==5` is refused. A value apart from its letter may not begin with `-`, but for `-` itself
 abbrev pub job_of : List Text → Result PlainJob WordFault
 job_of [] = Err Usage
 job_of (tool ∷ rest) = if bytes_eq tool (codes "patch") then patch_job (tool ∷ rest) else Err Usage

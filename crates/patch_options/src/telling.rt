@@ -79,7 +79,8 @@ fn put_row(text: &mut String, word: &Word) -> Result<(), AllocError>
     text.push_str("\n")
 }
 
-/// What brings the text to that column behind a word of this width, in the next line where the word is too wide.
+/// What brings the text to that column, which is 30, behind a word of this width; in the next line where the word has more than
+/// 27 bytes.
 fn put_gap(text: &mut String, width: usize) -> Result<(), AllocError>
     ensures { OnOk result (string_bytes text.new ≡ string_bytes text.old ++ gap width) }
 {

@@ -104,7 +104,9 @@ rejected_before past name = flat_map (λ m. text_if name m.rejected) past
 abbrev pub is_backup_asked : PlainTurn → List Verdict → Bool
 is_backup_asked t vs = t.options.backup || (t.options.mismatch_backup && is_none t.options.output && list_any is_inexact vs)
 
--- the backup's name is none of those that the file patch writes or takes away; beside the target's own name that is the other one of a rename
+-- the backup's name is none of those that the file patch writes or takes away; beside the target's own name that is the
+-- other one of a rename. A copy isn't excepted: it puts that backup first, over its own source. With `-E` and `-b` a bare
+-- header for an empty file that isn't made backs up an empty file
 abbrev pub is_backup_apart : PlainTurn → Target → Target → Bool
 is_backup_apart t w other = not (bytes_eq w.backup w.name) && not (renames t.item.patch && bytes_eq w.backup other.name)
 

@@ -157,7 +157,7 @@ fn first_address(script: &EdScript) -> u32
     }
 }
 
-/// Says that a file that was to be deleted has bytes left.
+/// Says that a file that was to be deleted has bytes left. A dry run says so too, and has status 1, where a real one would.
 fn say_kept<O: Sink>(
     turn: &Turn<'_>,
     target: &Target,

@@ -78,6 +78,8 @@ pub fn try_free<'n, P: LineStore, T: Tree>(
 }
 
 /// What is in the way first, once hunks were tried: of the reject file that is due, or of a backup that `-b` doesn't ask for.
+/// It is looked for in front of the first effect. Then the whole file patch is refused, also hunks that had a place: it is
+/// never half done, and a dry run says the same.
 fn obstacle_behind<'n, T: Tree>(
     turn: &Turn<'_>,
     source: &'n Target,

@@ -60,7 +60,8 @@ abbrev pub refusal_of : PlainOptions → List ℕ → Result (List PlainPatch) F
 refusal_of o text (Err f) = Some (faults.Malformed f.line f.kind)
 refusal_of o text (Ok ps) = first_of (garbage text ps ∷ out_many o ps ∷ ed_reverse o ps ∷ reserved o ps ∷ [])
 
--- the refusal of a text, which is read as completed
+-- the refusal of a text, which is read as completed. A reserved output without a file patch isn't refused. An operand is
+-- judged by its normal form, so `x.ptmp/` is; a patch file may be called so
 abbrev pub refusal : PlainOptions → List ℕ → Option SetFault
 refusal o text = if is_too_long text then Some faults.TooLong else refusal_of o text (patches_of (ways_of o) (completed text))
 

@@ -1,4 +1,6 @@
 //! Room for marks at the names that a run makes or takes away. It is made where a set is read, since a run takes no memory.
+//! Names are marked, and not the numbers of targets: a name that is given absolute and one below the directory of `-d` may be
+//! one name. A second run over a set has no marks, and looks through the file patches before for each backup.
 ghost use Rattle.std.specs.Prelude.{◌≡◌, All, IfOk, OnOk, is_some};
 ghost use Rattle.std.specs.Option.{ForSome};
 ghost use Rattle.patch_options.specs.PlainJob.{plain_options};

@@ -21,7 +21,8 @@ use patch_header::Ways;
 use std::alloc::{AllocError, Global};
 use std::marker::Model;
 
-/// What was done with a file patch.
+/// What was done with a file patch. A run holds no list of its own: what a file patch wrote is read back from its row and its
+/// verdicts.
 #[derive(Clone, Copy)]
 pub struct Row {
     /// The side that it was taken from.

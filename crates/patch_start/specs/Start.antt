@@ -68,7 +68,8 @@ is_reversed o ls side (Some h) = looks_reversed ls o.fuzz o.loose (turned side h
 abbrev pub turns : PlainOptions → Bool
 turns o = o.batch && not o.forward
 
--- a rename or a copy is never turned round
+-- a rename or a copy is never turned round. One that was done before is a plain change of its file, but for this, and its
+-- file is put whatever is left of it, with `-E` too
 abbrev pub turns_round : PlainTurn → Bool
 turns_round t = turns t.options && not (moves t.item.patch)
 

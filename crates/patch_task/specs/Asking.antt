@@ -80,6 +80,9 @@ is_set Plain = true
 is_set Executable = true
 is_set Link = true
 
--- what is asked of the file that is written: to be a symbolic link, where a git header says so of one side, or to be a regular file as it says of the side that is taken as new; an output that the options name isn't that file
+-- what is asked of the file that is written: to be a symbolic link, where a git header says so of one side, or to be a
+-- regular file as it says of the side that is taken as new; an output that the options name isn't that file. The bits that
+-- the file has are never compared. Without hunks both modes must be told, and the bytes are put again, so that mode, backup
+-- and stop go as with any file patch
 abbrev pub mode_asked : PlainOptions → Side → PlainPatch → Mode
 mode_asked o side p = if is_some o.output then Output else if is_link p then Link else mode_by (option_and_then is_executable (mode_on side p.header))

@@ -49,6 +49,8 @@ is_meant_subject FileToLink = false
 is_meant_subject LinkToFile = false
 is_meant_subject Submodule = false
 
+-- a file patch can be carried out. Git writes a change of type as a removal and a new file; with `-R` these stand in the
+-- wrong order, and the first is refused
 abbrev pub is_meant : PlainPatch → Bool
 is_meant p = is_meant_subject (subject_of p)
 

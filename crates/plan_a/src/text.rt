@@ -1,4 +1,5 @@
-//! A text in memory with its lines, and how it is taken from a tree.
+//! A text in memory with its lines, and how it is taken from a tree. No hash of a line is kept: it would take as much memory as
+//! its place.
 
 ghost use Rattle.std.specs.Prelude.{◌≡◌, ◌≤◌, ◌<◌, ◌+◌, ◌-◌, ◌^◌, ℕ, [], take, drop, length, vec_len, slice_index_or, bytes_eq, None, Some, IfOk, IfErr, IfSome};
 ghost use Rattle.line_list.specs.Lines.{lines};
@@ -171,7 +172,8 @@ fn size_of<T: Tree>(tree: &mut T, name: &Name) -> Result<u64, OpenFault>
     Ok(tree.size(name)?.unwrap_or(0))
 }
 
-/// Reads a file whole, of which so many bytes are stated. What is taken are the bytes that came.
+/// Reads a file whole, of which so many bytes are stated. What is taken are the bytes that came. The clause on their number
+/// needs the test behind it: a short file can't pass for a whole one.
 fn read_bytes<T: Tree>(
     alloc: Global,
     tree: &mut T,

@@ -2,7 +2,9 @@
 //!
 //! What a temporary holds comes from the patch text or from the file that was looked at last: a target's lines are taken from
 //! the file just before its temporary is started, and a backup's bytes are read while its temporary is filled. So that file's
-//! rights are those that the new one gets, or the most that it gets. What a stack of patches makes has other rules (`saves.rt`).
+//! rights are those that the new one gets, or the most that it gets. What a stack of patches makes has other rules
+//! (`saves.rt`). A run that filled a temporary from two files would have to look at the more private one last. The rights of
+//! the patch text count for nothing, as with GNU patch.
 
 use crate::found::Found;
 use crate::rights::Rights;

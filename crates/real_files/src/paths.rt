@@ -68,7 +68,8 @@ impl<'a> Path<'a> {
 }
 
 /// What was found, or nothing where the error says that it can't be reached: a name longer than the system takes, or one behind
-/// a directory that can't be searched.
+/// a directory that can't be searched. So a candidate costs its file patch and not the run. For the stack's own files it is a
+/// fault: else a stack would look as if nothing of it were applied.
 pub fn or_out_of_reach(found: io::Result<Found>) -> io::Result<Found> {
     match found {
         Ok(found) => Ok(found),

@@ -10,7 +10,7 @@ const PERMISSION_BITS: u32 = 0o777;
 
 const EXECUTE_BITS: u32 = 0o111;
 
-/// The owner, the group and the permission bits of a file.
+/// The owner, the group and the permission bits of a file. Access lists and extended attributes aren't carried.
 #[derive(Clone, Copy)]
 pub struct Rights {
     owner: u32,

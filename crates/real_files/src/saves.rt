@@ -1,8 +1,9 @@
 //! Whose rights the files of a stack of patches get.
 //!
-//! A save holds the bytes of many files. It is for those who may read each of them, and for its owner. What is put back from
-//! a save keeps the rights of what it replaces. Where nothing is there, it gets those of what this run took away there, or else
-//! no more than the save's.
+//! A save holds the bytes of many files. It is for those who may read each of them, and for its owner. What is put back from a
+//! save keeps the rights of what it replaces. Where nothing is there, it gets those of what this run took away there, or else
+//! no more than the save's. It can't bring back the bits of a file that an earlier push took away, nor, where a push fails,
+//! those of an old reject file that one for a more private file replaced. Both get fewer bits, never more.
 
 use crate::found::Found;
 use crate::origins::{Due, Grant, own};

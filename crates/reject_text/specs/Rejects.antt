@@ -52,6 +52,7 @@ reject_at rows i = first_reject (net (take i rows)) (drop i rows)
 unfoldable pub rejects : List Row → List PlainHunk
 rejects rows = flat_map (reject_at rows) (range_with_len 0 (length rows))
 
--- two header lines, and the hunks that have no place
+-- two header lines, and the hunks that have no place. A reject text is read back hunk by hunk, and not as one piece: a
+-- placed hunk that drops lines can put later starts below earlier ones
 abbrev pub reject_text : List PlainHunk → List Verdict → Side → List ℕ → Form → List ℕ
 reject_text hs verdicts side name form = headers form name ++ flat_map (hunk_text form) (rejects (rows_of side hs verdicts))

@@ -34,7 +34,8 @@ pub fn put_begun<T: Tree>(tree: &mut T, begun: Temp<'_>, to: &Name) -> Result<()
     sealed.swap(tree, to)
 }
 
-/// Puts a file with these bytes, whole at every moment, by way of the temporary.
+/// Puts a file with these bytes, whole at every moment, by way of the temporary. It puts one file: who has several loops over
+/// it, by the lemmas of `outside/proofs/Effects.antt`.
 pub fn put_whole<T: Tree>(tree: &mut T, temp: &Name, to: &Name, bytes: &[u8]) -> Result<(), Failed>
     requires temporary { is_temp temp.now ≡ true }
     requires lasting { is_temp to.now ≡ false }

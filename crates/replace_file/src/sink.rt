@@ -11,7 +11,8 @@ use crate::temp::{Temp, begin_temp};
 use outside::{Failed, Sink, Tree};
 
 /// A sink over a temporary of a quiet tree. It hands each piece on and keeps no copy. A write after a failed one makes the
-/// temporary anew first.
+/// temporary anew first. Its `same_rest` has the name of the lent tree, so that who calls a generic `put_all` knows the tree
+/// afterwards.
 #[derive(Drop)]
 pub struct TempSink<'a, 'n, T: Tree> {
     tree: &'a mut T,

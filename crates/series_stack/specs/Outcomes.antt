@@ -101,6 +101,7 @@ abbrev pub outcome_in : Reader → StackOp → Files → Result Stack Refusal �
 outcome_in read op f (Err e) = refused e
 outcome_in read op f (Ok s) = outcome_of s f (work_of read op f s)
 
--- the refusals in their order; else what an interrupted command did is undone first, and then the work is done
+-- the refusals in their order; else what an interrupted command did is undone first, and then the work is done. The patch
+-- runs with its save in place: none of its names is the stack's, so it doesn't see it
 unfoldable pub command : Reader → StackOp → Files → Outcome
 command read op f = outcome_in read op f (stack_of f)

@@ -27,7 +27,7 @@ save_text es = flat_map entry_text es
 
 -- ---- what an entry may be
 
--- below the directories of the stack itself
+-- below the directories of the stack itself; a file that is called `.pc` or `patches` itself isn't of the stack
 abbrev pub is_of_stack : List ℕ → Bool
 is_of_stack name = starts_with nat_eq name (codes ".pc/") || starts_with nat_eq name (codes "patches/")
 

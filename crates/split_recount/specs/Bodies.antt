@@ -30,7 +30,8 @@ is_signature line = bytes_eq line (45 ∷ 45 ∷ 32 ∷ 10 ∷ [])
 abbrev pub is_empty : List ℕ → Bool
 is_empty line = bytes_eq line (10 ∷ [])
 
--- a body ends in front of this line, which these follow
+-- a body ends in front of this line, which these follow. `@@ -` without a digit is no opening: it ends a body and stays as
+-- it is
 unfoldable pub ends_body : List ℕ → List (List ℕ) → Bool
 ends_body line rest = is_opening line || is_signature line || begins_header line rest || is_empty line || not (is_body_line line)
 

@@ -93,6 +93,8 @@ bytes_of ls = flat_map (λ line. line) ls
 abbrev pub recounted_lines : List (List ℕ) → Result (List ℕ) Fault
 recounted_lines ls = recounting 1 none false ls >>= λ new. Ok (bytes_of new)
 
--- the completed text with true counts, or its first fault
+-- the completed text with true counts, or its first fault. A range line is still judged by the counts that it states: a bad
+-- range and a number above the limit are refused; two counts of 0 and hunks out of order aren't, so `+0` can come out,
+-- which the unified reader refuses
 abbrev pub recounted : List ℕ → Result (List ℕ) Fault
 recounted text = recounted_lines (lines (completed text))

@@ -13,7 +13,7 @@ use Rattle.tool_words.specs.declared.operands.Next.TheVariants.{Any}
 use Rattle.tool_words.specs.declared.tools.Tool.{Tool}
 use Rattle.tool_words.specs.declared.tools.Tool.TheVariants.{Lsdiff, Filterdiff, Grepdiff, Splitdiff, Recountdiff, Patchgen, Reversediff, Patchstack}
 
--- tools that take several FILEs
+-- tools that take several FILEs. `reversediff` takes one: turned round, the last text would have to come first
 abbrev pub takes_files : Tool → Bool
 takes_files Lsdiff = true
 takes_files Filterdiff = true

@@ -73,7 +73,8 @@ fn add_file<T: Tree>(
     Ok(())
 }
 
-/// Adds the lines of a text, without their line feeds; an empty line is no pattern.
+/// Adds the lines of a text, without their line feeds; an empty line is no pattern. A carriage return at the end of a line is
+/// part of its pattern.
 fn add_lines(alloc: Global, text: &[u8], patterns: &mut Vec<Vec<u8>>) -> Result<(), AllocError>
     ensures { OnOk result (map (λ p. p.items) patterns.new.items ≡ map (λ p. p.items) patterns.old.items ++ patterns_in text.now) }
 {
