@@ -1,5 +1,5 @@
 //! Backups with numbers (GNU patch manual, "Backup Files"): before the first change the targets of a set get the names of those
-//! that come next. What is asked of the tree is told by its last numbers.
+//! that come next. What is asked of the tree is told by its last numbers. Stands on `patch_set`. Begin with `specs/Numbering.antt`.
 #![tactic(auto)]
 
 ghost use Rattle.std.specs.Prelude.{◌≡◌, ◌<◌, ◌-◌, ◌^◌, Some, None, nat_lt, if◌then◌else◌, IfOk, IfErr, OnOk};

@@ -1,5 +1,5 @@
-//! A patch text as `patch` reads it, without the indent that it was pasted with, and without the carriage returns that mail or another
-//! system put in front of its line feeds.
+//! A patch text as `patch` reads it, without the indent that it was pasted with, and without the carriage returns that mail or
+//! another system put in front of its line feeds. Stands on `patch_set` and `git_order`. Begin with `specs/Cleaned.antt`.
 #![tactic(auto)]
 
 mod bare;

@@ -1,4 +1,5 @@
-//! The context form of a patch (GNU diffutils manual, "Detailed Description of Context Format").
+//! The context form of a patch (GNU diffutils manual, "Detailed Description of Context Format"): how hunks of two parts are read
+//! and written. Stands on `hunk_core`. Begin with `specs/Grammar.antt`.
 #![tactic(auto)]
 
 mod hunks;

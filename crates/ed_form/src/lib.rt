@@ -1,4 +1,5 @@
-//! Ed scripts as `diff -e` writes them (GNU diffutils manual, "Detailed Description of ed Scripts").
+//! Ed scripts as `diff -e` writes them (GNU diffutils manual, "Detailed Description of ed Scripts"): how they are read. Stands on
+//! `hunk_core`. Begin with `specs/Grammar.antt`.
 #![tactic(auto)]
 
 mod added;

@@ -1,4 +1,5 @@
-//! What is wrong with the line that a fault names, in the words of the manuals: laws of reading, with no code.
+//! What is wrong with the line that a fault names, in the words of the manuals: laws of reading, with no code. Stands on
+//! `patch_text` and the readers of the forms. Begin with `specs/TextFaults.antt`.
 #![tactic(auto)]
 
 mod context;

@@ -1,5 +1,6 @@
-//! One file patch of a patch text, the names of the files that it can be meant for, and the names that a run can need for each
-//! of them.
+//! One file patch, and the names of the files that it can be meant for; for each also the names of its backup, its reject file and
+//! their temporaries, and a number. Stands on `header_record` and the options of `patch_options`. Begin with
+//! `specs/Candidates.antt`, then `specs/Targets.antt`.
 #![tactic(auto)]
 
 ghost use Rattle.std.specs.Prelude.{◌≡◌, ◌<◌, ◌^◌, ℕ, List};

@@ -1,5 +1,6 @@
-//! Which file patches and which hunks the words of a filter mean, by names, numbers and old lines; and the file patches of a
-//! patch text without their hunks: outlines for who lists them, digests for who leaves some out.
+//! Which file patches and which hunks the words of a filter mean, by names, numbers and old lines; and the file patches of a text
+//! without their hunks: outlines for who lists them, digests for who leaves some out. Stands on `patch_set` and `tool_words`. Begin
+//! with `specs/Selected.antt`, then `specs/Kept.antt`.
 #![tactic(auto)]
 
 mod digest;

@@ -1,5 +1,5 @@
-//! The filters: what one does with its words, over any tree, finder, source and sink, and how those that choose file patches come
-//! from the text to what is written.
+//! All that a filter does with its words, over any tree, finder, source and sink: one run for each FILE. Stands on `patch_filters`,
+//! `whole_filters` and `format_convert`. Begin with `src/turns.rt`, then `src/tools.rt` and `specs/Command.antt`.
 #![tactic(auto)]
 
 mod carrying;

@@ -1,5 +1,6 @@
-//! What the filters write, in laws with no code: it reads as the file patches that a filter leaves, where the joins are clean; how a
-//! set reads that was written in another form; and what a file patch undoes that is turned round.
+//! What the filters write, in laws with no code: it reads as the file patches that a filter leaves, where the joins are clean; how
+//! a set reads that was written in another form; and what a file patch undoes that is turned round. Stands on all filters and on
+//! `reading_law`. Begin with `specs/ReadAgain.antt`.
 #![tactic(auto)]
 
 mod format_laws;

@@ -1,8 +1,6 @@
 //! The kept hunks of a file patch, or its ed script, written in another form: as blocks of changed lines in the commands of the
-//! normal form or of an ed script, or hunk by hunk.
-//!
-//! It takes no memory: a block is walked over where it stands in the hunks. A refusal comes before anything is written, and
-//! after a failure the sink received a first part.
+//! normal form or of an ed script, or hunk by hunk. It takes no memory. A refusal comes before anything is written, and after a
+//! failure the sink received a first part. Stands on `filter_choice` and `flip_patch`. Begin with `specs/Converted.antt`.
 #![tactic(auto)]
 
 mod behind;

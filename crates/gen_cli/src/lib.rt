@@ -1,4 +1,5 @@
-//! All that `patchgen` does with its words, over any tree, scratch and sink.
+//! All that `patchgen` does with its words, over any tree, scratch and sink: the made files are put, and the made patch is applied
+//! to them. Stands on `patch_gen` and `patch_run`. Begin with `src/running.rt`, then `specs/Command.antt`.
 #![tactic(auto)]
 
 mod carrying;

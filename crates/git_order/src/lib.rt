@@ -1,5 +1,5 @@
-//! The order in which the file patches of a git diff are carried out: who renames or copies a file comes before whoever changes
-//! it, as git means it.
+//! The order in which the file patches of a git diff are carried out: who renames or copies a file comes before whoever changes it,
+//! as git means it. Stands on `patch_set`. Begin with `specs/Ordered.antt`.
 #![tactic(auto)]
 
 mod batches;

@@ -1,4 +1,5 @@
-//! Patterns of names: `*`, `?`, sets in brackets and a backslash.
+//! Patterns of names: `*`, `?`, sets in brackets and a backslash, as in a shell, but that `*` takes slashes too. Stands on `memchr`
+//! alone. Begin with `specs/Matching.antt`.
 #![tactic(auto)]
 
 ghost use Rattle.std.specs.Prelude.{◌≡◌, ◌↔◌, ◌+◌, ◌<◌, ◌≤◌, ◌∷◌, IsTrue, ℕ, List, true, length, drop, slice_index, slice_range, MatchOption};

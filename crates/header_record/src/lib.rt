@@ -1,4 +1,5 @@
-//! A header as a record: what the lines in front of the opening of a file patch say.
+//! A header as a record: what the lines in front of the opening of a file patch say; names in quotes and file modes, too. Stands on
+//! `stamp` and `hunk_core`. Begin with this file, then `src/quoted.rt`.
 #![tactic(auto)]
 
 mod modes;

@@ -1,5 +1,5 @@
-//! The output of a file with a change as `patch -D` writes it: both the old and the new lines, parted by conditions of
-//! the C preprocessor.
+//! The output of a file with a change as `patch -D` writes it: both the old and the new lines, parted by conditions of the C
+//! preprocessor. Stands on `hunk_apply`. Begin with `specs/Tagged.antt`, then `src/put.rt`.
 #![tactic(auto)]
 
 mod block;

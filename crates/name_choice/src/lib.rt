@@ -1,4 +1,5 @@
-//! Which of its names a file patch is meant for.
+//! Which of its names a file patch is meant for: the best of those that are there, or one that it can make. Stands on `file_patch`
+//! and the tree of `outside`. Begin with `specs/Choice.antt`.
 #![tactic(auto)]
 
 ghost use Rattle.std.specs.Prelude.{◌≡◌, ◌<◌, ◌^◌, length, Some, IfOk, OnErr};

@@ -1,4 +1,5 @@
-//! The normal form of a patch (GNU diffutils manual, "Detailed Description of Normal Format").
+//! The normal form of a patch (GNU diffutils manual, "Detailed Description of Normal Format"): how hunks are read and written.
+//! Stands on `hunk_core`. Begin with `specs/Grammar.antt`.
 #![tactic(auto)]
 
 mod command;

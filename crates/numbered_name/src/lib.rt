@@ -1,4 +1,5 @@
-//! The names of numbered backups, as `f.~2~` (GNU patch manual, "Backup Files").
+//! The names of numbered backups, as `f.~2~` (GNU patch manual, "Backup Files"). Stands on the names of `outside`. Begin with this
+//! file.
 #![tactic(auto)]
 
 ghost use Rattle.std.specs.Prelude.{◌≡◌, ◌≢◌, ◌↔◌, ◌-◌, ◌^◌, ◌<◌, ◌++◌, ℕ, List, IsTrue, Some, IfOk, MatchOption, codes, min};

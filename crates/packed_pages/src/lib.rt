@@ -1,4 +1,5 @@
 //! A plan that holds a file's lines as packed records in a scratch, finds them by an index, and lends them through two pages.
+//! Records have no padding, so they take less room than those of `plan_b`. Stands on `page_pair`. Begin with `specs/Layout.antt`.
 #![tactic(auto)]
 
 ghost use Rattle.std.specs.Prelude.{◌≡◌, ◌≢◌, ◌≤◌, ◌-◌, ℕ, List, [], false, None, Some, IfErr, OnOk, OnErr};

@@ -1,4 +1,5 @@
-//! Two pages of bytes, lent apart; a file read in pieces as large as a page, and the records of its lines made on another page.
+//! Two pages of bytes, lent apart: the buffers of the plans that hold a file on disk. A file is read in pieces as large as a page,
+//! and the records of its lines are made on another page. Stands on `line_store`. Begin with this file.
 #![tactic(auto)]
 
 ghost use Rattle.std.specs.Prelude.{◌≡◌, ◌+◌, ◌≤◌, ℕ, length, take, drop, replicate, IfOk};

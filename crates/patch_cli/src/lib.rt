@@ -1,4 +1,5 @@
-//! All that `patch` does with its words, over any tree, scratch, source and sinks.
+//! All that `patch` does with its words, over any tree, scratch, source and sinks. Stands on `patch_run`, `clean_text` and
+//! `run_answers`. Begin with `src/cli.rt` (`run`), then `specs/Command.antt`.
 #![tactic(auto)]
 
 mod cli;

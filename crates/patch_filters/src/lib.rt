@@ -1,5 +1,6 @@
-//! The file patches of a text as a list, the text with file patches and hunks left out, and the file patches of which a line is
-//! found, to any sink. Only a finder takes memory. After a failure the sink received a first part.
+//! What `lsdiff`, `filterdiff` and `grepdiff` write: the list of file patches, the text with some of them or of their hunks left
+//! out, those of which a line is found. Listing and filtering take no memory. After a failure the sink received a first part.
+//! Stands on `filter_choice`. Begin with `specs/Listed.antt`, `specs/Filtered.antt` and `specs/Grepped.antt`.
 #![tactic(auto)]
 
 mod all_told;

@@ -1,4 +1,5 @@
-//! A tree of numbered lines and a patch over it, made from a seed.
+//! A tree of numbered lines and a patch over it, made from a seed: cases for tests and measuring. Stands on `num_text` alone. Begin
+//! with `specs/Tree.antt`.
 #![tactic(auto)]
 
 ghost use Rattle.std.specs.Prelude.{◌≡◌, ◌<◌, ◌≤◌, ◌+◌, ◌-◌, ◌*◌, ◌/◌, ◌%◌, ◌^◌, ℕ, List, ◌++◌, ◌∷◌, [], length, map, IfOk, OnOk};

@@ -1,4 +1,5 @@
-//! Where the next file patch of a patch text opens, and what the lines in front of it say.
+//! Where the next file patch of a patch text opens, and what the lines in front of it say. Stands on `header_record` and the
+//! readers of the four forms. Begin with `specs/Openings.antt` (`stop_at`), then `src/search.rt`.
 #![tactic(auto)]
 
 mod bare;

@@ -1,4 +1,6 @@
-//! The words of `patch`, the options that they give and the text that tells them; tables of words, for other tools too.
+//! The words of `patch`, the options that they give and the text that tells them; tables of words, for other tools too. Stands on
+//! `clap`, which matches words against a table. Begin with `src/groups.rt` (the table), then `specs/Table.antt` and
+//! `specs/Words.antt`.
 #![tactic(auto)]
 
 mod admitted;

@@ -1,4 +1,5 @@
-//! What is said and written of a file patch whose hunks were tried: its target, backups and rejects.
+//! What is said and written of a file patch whose hunks were tried: its target, backups and rejects. Stands on `patch_task`,
+//! `say_text` and `reject_text`. Begin with `specs/Outcome.antt`, then `src/effects.rt`.
 #![tactic(auto)]
 
 mod effects;

@@ -1,4 +1,5 @@
-//! The file patches of a patch text as one set, with their targets, their verdicts and what was done with them.
+//! The file patches of a patch text as one set, with their targets, their verdicts and what was done with them. Stands on
+//! `patch_text` and `file_patch`. Begin with `specs/Refusals.antt`, which says what text makes no set, then `src/reading.rt`.
 #![tactic(auto)]
 
 mod asked;

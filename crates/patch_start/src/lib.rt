@@ -1,5 +1,6 @@
-//! How a file patch is taken: which file it is meant for, whether its hunks are tried on that, and from which side; and how they
-//! are tried, and its output written to a temporary.
+//! How a file patch begins: its file, whether it is skipped, and from which side it is tried; then its hunks are tried, and the
+//! output goes to a temporary. Stands on `name_choice`, `hunk_apply` and `patch_task`. Begin with `specs/Start.antt`, then
+//! `src/starting.rt`.
 #![tactic(auto)]
 
 mod choices;

@@ -1,4 +1,5 @@
-//! What `filterdiff` does to the names and the text of the file patches that it writes: from a text to a text.
+//! What `filterdiff` does to the names and the text of the file patches that it writes: from a text to a text, behind filtering.
+//! Stands on `patch_text` and `tool_words`. Begin with `specs/Styled.antt`.
 #![tactic(auto)]
 
 mod fronts;

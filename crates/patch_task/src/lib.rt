@@ -1,5 +1,6 @@
-//! A file patch that is carried out: what it asks for, the names of its files, what comes of its hunks, the effects on its target
-//! in their order, and why a run doesn't come to its end.
+//! What a file patch asks for, and the effects on its target in their order: mode, time, rename or copy, backup; and why a run
+//! doesn't come to its end. Stands on `patch_set` and `replace_file`. Begin with `specs/Asking.antt`, then
+//! `specs/TargetEffects.antt`.
 #![tactic(auto)]
 
 mod asking;

@@ -1,4 +1,6 @@
-//! The file patches of a patch text.
+//! All file patches of a patch text, and where each of them lies: whole, without hunks (outlines), or with no more of a hunk than
+//! its place and old lines (digests). Stands on `patch_header`, `file_patch` and the readers of the forms. Begin with
+//! `specs/Texts.antt`, then `src/patches.rt`.
 #![tactic(auto)]
 
 mod absent;

@@ -1,4 +1,5 @@
-//! The program: all that its tools do, over real devices.
+//! The program: all that its tools do, over real devices. Stands on `program_answers` and the crate of each command (`patch_cli`,
+//! `filter_cli`, `gen_cli`, `stack_cli`). Begin with `src/run_tool.rt` (`run`): its contract is what is proved of the program.
 #![tactic(auto)]
 
 mod kind;

@@ -1,4 +1,5 @@
-//! A plan that holds the whole file in memory, and one that is chosen by the size of each file.
+//! A plan that holds the whole file in memory, and one that is chosen by the size of each file. Stands on the traits of
+//! `line_store`. Begin with `src/text.rt`.
 #![tactic(auto)]
 
 ghost use Rattle.std.specs.Prelude.{◌≡◌, ◌≤◌, true};

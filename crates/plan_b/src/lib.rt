@@ -1,4 +1,5 @@
-//! A plan that holds a file's lines as padded records in a scratch, and lends them through two pages.
+//! A plan that holds a file's lines as padded records in a scratch, and lends them through two pages: all records have one width,
+//! so the place of a line is told by its number. Stands on `page_pair`. Begin with `specs/Layout.antt`.
 #![tactic(auto)]
 
 ghost use Rattle.std.specs.Prelude.{◌≡◌, ◌≢◌, ◌≤◌, ◌-◌, ℕ, List, [], false, None, Some, IfErr, OnOk, OnErr};

@@ -1,5 +1,6 @@
-//! From the words that the program was called with to its exit status: what was asked is told, or the words are carried out over real
-//! devices, and what helps is written behind the answer.
+//! From the words that the program was called with to its exit status: what was asked is told, or the words are carried out over
+//! real devices, and what helps is written behind the answer. Stands on `program_words` and `real_devices`. Begin with
+//! `src/carrying.rt`.
 #![tactic(auto)]
 
 mod asking;

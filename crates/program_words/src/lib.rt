@@ -1,4 +1,6 @@
-//! The words that the program was called with, and the texts that help its caller. The words are as the system gives them.
+//! The words that the program was called with, and the texts that help its caller: the help, and lines on standard error beside
+//! that of the answer. The words are as the system gives them. Stands on `tool_words` and `real_devices`. Begin with
+//! `src/called.rt`, then `src/ended.rt`.
 #![tactic(auto)]
 
 mod barred;

@@ -1,5 +1,6 @@
-//! How texts of file patches read: where they can be put one behind the other, so that each is read as it is read alone; how a set
-//! turned round reads; and how the patch that `patchgen` makes reads. Laws of what is written, with no code.
+//! How texts of file patches read that are joined, turned round or made: laws with no code. Texts can be put one behind the other
+//! so that each is read as it is read alone; a set is turned round by `flip_patch`, a patch made by `patch_gen`. Stands on
+//! `patch_text`. Begin with `specs/Joins.antt`.
 #![tactic(auto)]
 
 mod flip_laws;

@@ -1,4 +1,5 @@
-//! The devices of a run over real files and streams.
+//! The devices of a run over real files and streams: the traits of `outside`, met by the system. Stands on `real_files`. Begin with
+//! `src/disk.rt`, then `src/streams.rt`.
 #![tactic(auto)]
 
 mod disk;

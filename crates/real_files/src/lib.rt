@@ -1,4 +1,6 @@
-//! The files of a run on the real disk: what stands at a name, what is open, and whose rights each new file gets.
+//! The files of a run on the real disk: what stands at a name, what is open, and whose rights each new file gets. No contract can
+//! say what a disk holds; what is believed of it is in `docs/TRUST.md`. Stands on the names of `outside`. Begin with
+//! `src/files.rt`.
 #![tactic(auto)]
 
 mod asked;

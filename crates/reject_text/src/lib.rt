@@ -1,4 +1,5 @@
 //! The text of a reject file, of a file patch or of one of a set: the hunks that have no place, in the unified or the context form.
+//! Stands on the writers of both forms. Begin with `specs/Rejects.antt`.
 #![tactic(auto)]
 
 mod header;

@@ -1,4 +1,4 @@
-//! The first step of a run.
+//! The first step of a run: the tree is settled, so all that reads give is synced to disk.
 ghost use Rattle.std.specs.Prelude.{◌≡◌, IfErr, OnOk};
 ghost use Rattle.outside.specs.TreeView.{Rises};
 ghost use Rattle.outside.specs.Quiet.{IsQuiet};

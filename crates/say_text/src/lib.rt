@@ -1,6 +1,7 @@
-//! What `patch` says on standard output while it works, over any sink: a call for each message. Names are handed in as
-//! they are shown. With `-s` most calls write nothing; each says where it does, and all take the options, so that they look
-//! alike. After a failure the sink received a first part of the message. A line number below 0 has its minus sign.
+//! What `patch` says on standard output while it works, over any sink: a call for each message. Names are handed in as they are
+//! shown. With `-s` most calls write nothing; each says where it does, and all take the options, so that they look alike. After a
+//! failure the sink received a first part. A line number below 0 has its minus sign. Stands on `patch_options`. Begin with
+//! `specs/Messages.antt`.
 #![tactic(auto)]
 
 mod files;

@@ -1,4 +1,6 @@
-//! What a stack promises.
+//! What a stack promises. `push` saves what the next patch's names stand for, applies the patch and raises the count, or restores
+//! the save where the patch isn't applied whole. `pop` lowers the count and restores the last patch's save. Each first undoes what
+//! a command that was interrupted has done, by the save that it left.
 ghost use Rattle.std.specs.Prelude.{◌≡◌, ℕ, suc, [], take, None, Ok};
 ghost use Rattle.std.specs.FinMap.{get};
 ghost use Rattle.outside.specs.Files.{Files, SameLasting};

@@ -1,4 +1,4 @@
-//! How many patches of a stack are applied.
+//! How many patches of a stack are applied: a number in digits without leading zeros, and a line feed.
 ghost use Rattle.std.specs.Prelude.{◌≡◌, ◌∷◌, ◌&&◌, [], nat_le, bytes_eq, None, Some, IfOk, IfErr};
 ghost use Rattle.series_stack.specs.Count.{count_of};
 ghost use Rattle.series_stack.specs.declared.fault.StackFault.TheVariants.{BadState};

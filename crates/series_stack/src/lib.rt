@@ -1,13 +1,6 @@
-//! The files of a stack of patches: the series, the count of those that are applied, and what each of them found; and what
-//! its commands do to files, and what holds of it at every moment.
-//!
-//! A series lists patches, one name per line; empty lines and lines that begin with `#` are skipped. A count is a number
-//! in digits without leading zeros, and a line feed. A save has for each name an entry: `none NAME`, or
-//! `file LENGTH NAME` and the bytes of the file, each followed by a line feed.
-//!
-//! `push` saves what the next patch's names stand for, applies the patch and raises the count, or restores the save where
-//! the patch isn't applied whole. `pop` lowers the count and restores the last patch's save. Each first undoes what a
-//! command that was interrupted has done, by the save that it left.
+//! The files of a stack of patches: the series, the count of those that are applied, and what each of them found (a save), as quilt
+//! keeps them; what its commands do to files, and what holds at every moment. Stands on `replace_file`. Begin with
+//! `specs/Outcomes.antt`, then `specs/Laws.antt`; `src/series.rt`, `src/count.rt` and `src/save.rt` say what the files hold.
 #![tactic(auto)]
 
 mod command_laws;

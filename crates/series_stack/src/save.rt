@@ -1,4 +1,5 @@
-//! A save is looked at before anything in it is believed.
+//! A save is looked at before anything in it is believed. It has for each name an entry: `none NAME`, or `file LENGTH NAME` and
+//! the bytes of the file, each followed by a line feed.
 ghost use Rattle.std.specs.Prelude.{◌≡◌, ◌&&◌, not, bytes_eq, None, true, false, IsSome, IsSomeAnd, IfOk, IfErr, OnOk};
 ghost use Rattle.outside.specs.Files.{is_temp};
 ghost use Rattle.series_stack.specs.Saves.{entries_of, first_entry, if_saved, is_saved, is_of_stack};

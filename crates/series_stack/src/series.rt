@@ -1,4 +1,4 @@
-//! The list of the patches of a stack.
+//! The list of the patches of a stack, one name per line; empty lines and lines that begin with `#` are skipped.
 ghost use Rattle.std.specs.Prelude.{◌≡◌, ◌≤◌, ◌<◌, ◌++◌, ◌∷◌, [], ◌⊎◌, None, Some, true, false, length, IfOk, IfErr, OnOk};
 ghost use Rattle.outside.specs.Names.{normal_form};
 ghost use Rattle.series_stack.specs.Series.{is_skipped, is_lawful, series_of};

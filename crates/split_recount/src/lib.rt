@@ -1,4 +1,5 @@
-//! Unified hunks whose counts aren't trusted, written with the true ones; and a text cut between its file patches.
+//! Unified hunks whose counts aren't trusted, written with the true ones; and a text cut between its file patches. Stands on
+//! `unified_form` and `patch_header`. Begin with `specs/Recounted.antt`, then `specs/Parts.antt`.
 #![tactic(auto)]
 
 ghost use Rattle.std.specs.Prelude.{◌≡◌, ◌↔◌, ℕ, List, None, option_map};

@@ -1,4 +1,5 @@
-//! All that `patchstack` does with its words, over any tree, scratch and sink.
+//! All that `patchstack` does with its words, over any tree, scratch and sink. Stands on `stack_state` and `stack_patch`. Begin
+//! with `src/turns.rt`, then `src/carrying.rt` and `specs/Command.antt`.
 #![tactic(auto)]
 
 mod carrying;

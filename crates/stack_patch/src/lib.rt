@@ -1,7 +1,6 @@
-//! The patch that `push` applies to a stack's files: how its text is read from its file, and what it can change.
-//!
-//! It is read as by `patch -p1 --no-backup-if-mismatch`. With that it changes only the names of its targets and of their
-//! reject files, so a stack that saves these can take it back.
+//! The patch that `push` applies to a stack's files: it is read as by `patch -p1 --no-backup-if-mismatch`. So it changes only the
+//! names of its targets and of their reject files, and a stack that saves these can take it back. Stands on `patch_run` and
+//! `series_stack`. Begin with this file (`read_push`), then `specs/Changed.antt`.
 #![tactic(auto)]
 
 ghost use Rattle.std.specs.Prelude.{◌≡◌, None, Some, IfOk, IfErr};

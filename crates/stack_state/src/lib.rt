@@ -1,9 +1,6 @@
-//! The state of a stack of patches, read from its files: what the series lists, how many of them are applied, and their saves;
-//! and the steps of the commands, over any tree and sink: what is said, the count and the saves that are put, and a save that
-//! is undone.
-//!
-//! Each file is read whole, however long it is. Reading changes nothing. Each step starts on a quiet tree. It is made whole,
-//! and leaves the tree quiet, or a fault leaves a first part of it.
+//! The state of a stack of patches, read from its files, and the steps of its commands: what is said, the count and the saves that
+//! are put, and a save that is undone. Reading changes nothing. A step starts on a tree of which all is synced to disk and leaves
+//! it so, or a fault leaves a first part of the step. Stands on `series_stack`. Begin with `src/state.rt`, then `src/closing.rt`.
 #![tactic(auto)]
 
 mod closing;

@@ -1,4 +1,4 @@
-//! A file of the tree, read whole.
+//! A file of the tree, read whole, however long it is.
 ghost use Rattle.std.specs.Prelude.{◌≡◌, ◌≤◌, ◌<◌, Some, None, length, IfOk, IfErr, OnOk, option_map, vec_items};
 ghost use Rattle.std.specs.FinMap.{get};
 ghost use Rattle.outside.specs.Files.{Files, bytes_at};

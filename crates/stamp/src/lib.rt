@@ -1,4 +1,5 @@
-//! The time that a stamp in a header line says.
+//! The time that a stamp in a header line says, as `diff` and git write dates there; or that it says none. Stands on `jiff` for the
+//! calendar. Begin with `specs/Forms.antt`.
 #![tactic(auto)]
 
 ghost use Rattle.std.specs.Prelude.{◌≡◌, ◌↔◌, ℕ, ◌<◌, ◌≤◌, ◌+◌, length, drop, IfSome, ℤ, pos, neg_ℤ, ◌+ℤ◌, ◌*ℤ◌, option_map, slice_range};

@@ -1,4 +1,5 @@
-//! The words of the tools beside `patch`: what each tool takes, what its words ask for, and the text that tells them.
+//! The words of the tools beside `patch`: what each tool takes, what its words ask for, and the text that tells them. Stands on the
+//! tables of `patch_options`. Begin with `specs/Tables.antt`, then `src/rows.rt`.
 #![tactic(auto)]
 
 mod calls;

@@ -1,4 +1,6 @@
-//! What a filter reads before it writes, and the filters that take a text whole: counted anew, turned round, or split into parts.
+//! What each filter reads; and `recountdiff`, `reversediff` and `splitdiff`, which take a text whole: counted anew, turned round,
+//! or split into parts. Stands on `split_recount`, `flip_patch` and `run_answers`. Begin with `src/opening.rt`, then
+//! `specs/Outcomes.antt`.
 #![tactic(auto)]
 
 mod counting;
