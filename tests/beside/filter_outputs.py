@@ -95,6 +95,12 @@ def without_backslash_lines(case, out):
 
 
 @change(WRITTEN, 'patchutils-slips')
+def without_null_prefix(case, out):
+    """No prefix in front of /dev/null, which is no name."""
+    return re.sub(rb'(?m)^(---|\+\+\+|\*\*\*) \S+//dev/null$', rb'\1 /dev/null', out) if any(word.startswith('--add') for word in case.runs[0].words) else out
+
+
+@change(WRITTEN, 'patchutils-slips')
 def without_star_text(case, out):
     """Nothing behind the stars of a context hunk, which patchutils drops."""
     return b'\n'.join(STARS if line.startswith(STARS) else line for line in lines_of(out))

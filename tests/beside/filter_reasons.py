@@ -80,7 +80,7 @@ def is_chosen(case, out):
     """Whether a text that is only chosen from has its lines as they stand there and in their order."""
     run = case.runs[0]
     writes = run.tool == 'filterdiff' or any(word.startswith('--output-m') for word in run.words)
-    if not writes or any(word.startswith(('--format', '--annotate', '--as-', '--strip=', '--add', '--remove')) for word in run.words):
+    if not writes or any(word.startswith(('--format', '--annotate', '--as-', '--clean', '--strip=', '--add', '--remove')) for word in run.words):
         return True
     rest = iter(lines_of(without_starts(case, text_of(case))))
     return all(line in rest for line in lines_of(without_starts(case, out)))
@@ -146,6 +146,12 @@ def missing_recounted(case, theirs, ours, found):
     return ['patchutils-slips'] if case.runs[0].tool == 'recountdiff' and "Can't open" in theirs.err[0].decode() and 'not found' in told(ours) else []
 
 
+def lost_by_garbage(case, theirs, ours, found):
+    """patchutils, asked for another form, ends at text between hunks and header lines, and loses what stands behind it, with status 0."""
+    formatted = any(word.startswith('--format=') for word in case.runs[0].words)
+    return ['patchutils-slips'] if formatted and 'Garbled input' in told(theirs) and ours.status == [0] else []
+
+
 def same_after(case, theirs, ours, changes):
     """Whether both texts are the same once they are changed so."""
     for _, change in changes:
@@ -164,7 +170,7 @@ def fewest(case, theirs, ours, changes):
     return sorted({key for key, _ in needed})
 
 
-REASONS = (refusal_status, said_again, refused_words, refused_text, refused_pattern, missing_recounted, pattern_files, cut, printed, other_numbers)
+REASONS = (refusal_status, said_again, refused_words, refused_text, refused_pattern, missing_recounted, lost_by_garbage, pattern_files, cut, printed, other_numbers)
 
 
 def key_of(case, theirs, ours, found):
