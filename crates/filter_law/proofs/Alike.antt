@@ -6,11 +6,11 @@ use Rattle.hunk_core.specs.declared.Form.{Form}
 use Rattle.hunk_core.specs.declared.Form.TheVariants.{Unified, Context, Normal, Ed}
 use Rattle.hunk_core.specs.LineTests.{after}
 use Rattle.hunk_core.proofs.TextLemmas.{has_some, after-takes}
-use Rattle.unified_form.specs.Ranges.{is_opening}
 use Rattle.context_form.specs.Openings.{is_stars, has_number, opens_old}
 use Rattle.normal_form.specs.Hunks.{is_marked}
+use Rattle.patch_header.specs.GitHeaders.{is_range_like}
 use Rattle.patch_header.specs.Openings.{begins}
-use Rattle.patch_header.proofs.Fronts.{front, and_left, or_cases, after-front, unified-front, context-front, range-front, normal-range, ed-range}
+use Rattle.patch_header.proofs.Fronts.{front, and_left, or_cases, after-front, unified-range, ranged-front, unified-front, context-front, range-front, normal-range, ed-range}
 use Rattle.reading_law.proofs.Quiet.{LookAlike}
 use Rattle.reading_law.proofs.Solid.{digit-low, form-front, front-solid, solid-shows, solid-alike}
 use Rattle.patch_header.specs.GitRows.{is_unified}
@@ -42,11 +42,11 @@ ranged-none only Context line more h =
 ranged-none only Normal line more h = let low : 48 ≤ front line = (digit-low (front line) (range-front line (normal-range line (and_left _ _ h)))).0 in not-old line (λ k. omega (arith, low, k))
 ranged-none only Ed line more h = let low : 48 ≤ front line = (digit-low (front line) (range-front line (ed-range line (and_left _ _ h)))).0 in not-old line (λ k. omega (arith, low, k))
 
-hunk-is : (only : Option Form) (f : Form) (line : List ℕ) (more : List (List ℕ)) → begins only f (line ∷ more) ≡ true → is_opening line ≡ is_unified f
-hunk-is only Unified line more h = h
-hunk-is only Context line more h = false_from_ne_true (is_opening line) (λ k. let a : front line ≡ 64 = unified-front line k in let b : front line ≡ 42 = context-front line (and_left (is_stars line) _ h) in omega (arith, a, b))
-hunk-is only Normal line more h = false_from_ne_true (is_opening line) (λ k. let a : front line ≡ 64 = unified-front line k in let b : front line ≤ 57 = (digit-low (front line) (range-front line (normal-range line (and_left _ _ h)))).1 in omega (arith, a, b))
-hunk-is only Ed line more h = false_from_ne_true (is_opening line) (λ k. let a : front line ≡ 64 = unified-front line k in let b : front line ≤ 57 = (digit-low (front line) (range-front line (ed-range line (and_left _ _ h)))).1 in omega (arith, a, b))
+range-is : (only : Option Form) (f : Form) (line : List ℕ) (more : List (List ℕ)) → begins only f (line ∷ more) ≡ true → is_range_like line ≡ is_unified f
+range-is only Unified line more h = unified-range line h
+range-is only Context line more h = false_from_ne_true (is_range_like line) (λ k. let a : front line ≡ 64 = ranged-front line k in let b : front line ≡ 42 = context-front line (and_left (is_stars line) _ h) in omega (arith, a, b))
+range-is only Normal line more h = false_from_ne_true (is_range_like line) (λ k. let a : front line ≡ 64 = ranged-front line k in let b : front line ≤ 57 = (digit-low (front line) (range-front line (normal-range line (and_left _ _ h)))).1 in omega (arith, a, b))
+range-is only Ed line more h = false_from_ne_true (is_range_like line) (λ k. let a : front line ≡ 64 = ranged-front line k in let b : front line ≤ 57 = (digit-low (front line) (range-front line (ed-range line (and_left _ _ h)))).1 in omega (arith, a, b))
 
 none-begins : (only : Option Form) (f : Form) → begins only f [] ≡ true → ⊥
 none-begins only Unified h = absurd cc
@@ -60,6 +60,6 @@ form-alike only f (line ∷ more) [] h k = absurd (none-begins only f k)
 form-alike only f (line ∷ more) (next ∷ others) h k = solid-alike (line ∷ more) (next ∷ others)
     (marked-none only f line more h ∙ sym (marked-none only f next others k))
     (ranged-none only f line more h ∙ sym (ranged-none only f next others k))
-    (hunk-is only f line more h ∙ sym (hunk-is only f next others k))
+    (range-is only f line more h ∙ sym (range-is only f next others k))
     (solid-shows line more (front-solid line (form-front only f line more h)))
     (solid-shows next others (front-solid next (form-front only f next others k)))

@@ -16,6 +16,7 @@ use Rattle.context_form.specs.Openings as context
 use Rattle.normal_form.specs.Commands as command
 use Rattle.hunk_core.specs.OptionSteps.{◌>>=◌}
 use Rattle.patch_header.specs.Content.{content, is_binary}
+use Rattle.patch_header.specs.GitHeaders.{is_range_like}
 
 -- the first byte of a line; 0 where there is none
 abbrev pub front : List ℕ → ℕ
@@ -44,9 +45,16 @@ unified-some : (o : Option (List ℕ)) → is_some (o >>= range_line.size_at) �
 unified-some None h = absurd cc
 unified-some (Some x) h = refl
 
-pub unified-front : (line : List ℕ) → range_line.is_opening line ≡ true → front line ≡ 64
+-- the range line of a hunk begins as one, and what begins so has its first byte
+pub unified-range : (line : List ℕ) → range_line.is_opening line ≡ true → is_range_like line ≡ true
 unfolding range_line.is_opening
-unified-front line h = after-front 64 (64 ∷ 32 ∷ 45 ∷ []) line (unified-some (after (64 ∷ 64 ∷ 32 ∷ 45 ∷ []) line) h)
+unified-range line h = unified-some (after (64 ∷ 64 ∷ 32 ∷ 45 ∷ []) line) h
+
+pub ranged-front : (line : List ℕ) → is_range_like line ≡ true → front line ≡ 64
+ranged-front line h = after-front 64 (64 ∷ 32 ∷ 45 ∷ []) line h
+
+pub unified-front : (line : List ℕ) → range_line.is_opening line ≡ true → front line ≡ 64
+unified-front line h = ranged-front line (unified-range line h)
 
 pub context-front : (line : List ℕ) → context.is_stars line ≡ true → front line ≡ 42
 context-front line h = after-front 42 (42 ∷ 42 ∷ 42 ∷ 42 ∷ 42 ∷ 42 ∷ 42 ∷ 42 ∷ 42 ∷ 42 ∷ 42 ∷ 42 ∷ 42 ∷ 42 ∷ []) line h

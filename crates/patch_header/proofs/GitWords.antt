@@ -8,13 +8,14 @@ use Rattle.std.proofs.Math.Seq.{get_or-append_seam}
 use Rattle.std.proofs.lemmas.List.{append-nil, reverse-append, take-append-le, take_all}
 use Rattle.hunk_core.specs.LineTests.{after}
 use Rattle.patch_header.specs.Content.{content}
-use Rattle.patch_header.specs.GitHeaders.{starts, is_git_line, is_extended, extended_run, behind_run, is_index_line, has_line, action_of, is_plain, changes_mode, asks_alone, has_new_name, has_names, leads, begins_bare}
+use Rattle.patch_header.specs.GitHeaders.{starts, is_git_line, is_extended, extended_run, behind_run, is_index_line, has_line, action_of, is_plain, changes_mode, asks_alone, begins_range, has_new_name, has_names, leads, begins_bare}
 use Rattle.patch_header.specs.NamesFit.{tells, gives, is_free, fits, old_fits, new_fits}
 use Rattle.unified_form.specs.Hunks.{begins_hunk}
 use Rattle.patch_header.specs.GitRows.{half, are_alike, has_halves, header_back, old_name_back, new_name_back, led_rows}
 use Rattle.patch_header.specs.Region.{Row}
 use Rattle.header_record.specs.declared.Action.{Action}
 use Rattle.header_record.specs.declared.Action.TheVariants.{Plain, New, Deleted, Rename, Copy}
+use Rattle.patch_header.proofs.Fronts.{unified-range}
 use Rattle.patch_header.proofs.Stands.{and_left, and_right}
 use Rattle.patch_header.proofs.Meanings.{begins-words}
 use Rattle.patch_header.proofs.ScanLemmas.{run-more, behind-more, run-stops, behind-stops, run-none, behind-none}
@@ -205,19 +206,29 @@ and-none : (v : Bool) → (v && false) ≡ false
 and-none true = refl
 and-none false = refl
 
-pub old-apart-words : (old : List ℕ) (run rest : List (List ℕ)) → begins_hunk (old ∷ rest) ≡ false → old_fits run old ≡ false → leads run (old ∷ rest) ≡ false
+pub old-apart-words : (old : List ℕ) (run rest : List (List ℕ)) → begins_range (old ∷ rest) ≡ false → old_fits run old ≡ false → leads run (old ∷ rest) ≡ false
 old-apart-words old run rest hunk none =
     ap (λ v. v || has_names run (old ∷ rest)) hunk
     ∙ ap (λ v. starts (codes "--- ") old && (v && has_new_name run rest)) none
     ∙ and-none (starts (codes "--- ") old)
 
-pub new-apart-words : (old new : List ℕ) (run rest : List (List ℕ)) → begins_hunk (old ∷ new ∷ rest) ≡ false → new_fits run new ≡ false → leads run (old ∷ new ∷ rest) ≡ false
+pub new-apart-words : (old new : List ℕ) (run rest : List (List ℕ)) → begins_range (old ∷ new ∷ rest) ≡ false → new_fits run new ≡ false → leads run (old ∷ new ∷ rest) ≡ false
 new-apart-words old new run rest hunk none =
     ap (λ v. v || has_names run (old ∷ new ∷ rest)) hunk
-    ∙ ap (λ v. starts (codes "--- ") old && (old_fits run old && (starts (codes "+++ ") new && (v && begins_hunk rest)))) none
+    ∙ ap (λ v. starts (codes "--- ") old && (old_fits run old && (starts (codes "+++ ") new && (v && begins_range rest)))) none
     ∙ ap (λ v. starts (codes "--- ") old && (old_fits run old && v)) (and-none (starts (codes "+++ ") new))
     ∙ ap (λ v. starts (codes "--- ") old && v) (and-none (old_fits run old))
     ∙ and-none (starts (codes "--- ") old)
+
+-- ---- before a hunk, damaged or not
+
+pub range-words : (rest : List (List ℕ)) → begins_hunk rest ≡ true → begins_range rest ≡ true
+range-words [] h = absurd cc
+range-words (line ∷ rest) h = unified-range line h
+
+pub leading-words : (git : List ℕ) (rest : List (List ℕ)) → leads (extended_run rest) (behind_run rest) ≡ true → begins_bare (git ∷ rest) ≡ false
+unfolding begins_bare
+leading-words git rest h = ap (λ v. is_git_line git && (not v && asks_alone (extended_run rest))) h ∙ and-none (is_git_line git)
 
 not-or : (v w : Bool) → v ≡ false → (not v || w) ≡ true
 not-or true w e = absurd (false≢true (sym e))

@@ -2,7 +2,6 @@
 use Rattle.std.specs.Prelude.{ℕ, Bool, true, false, not, ◌&&◌, ◌||◌, List, [], ◌∷◌, is_some, codes, if◌then◌else◌}
 use Rattle.std.specs.List.{list_any}
 use Rattle.hunk_core.specs.LineTests.{after}
-use Rattle.unified_form.specs.Hunks.{begins_hunk}
 use Rattle.patch_header.specs.Content.{content}
 use Rattle.patch_header.specs.NamesFit.{old_fits, new_fits}
 use Rattle.header_record.specs.declared.Action.{Action}
@@ -74,23 +73,33 @@ changes_mode ls = has_line (codes "old mode ") ls && has_line (codes "new mode "
 unfoldable pub asks_alone : List (List ℕ) → Bool
 asks_alone ls = not (is_plain (action_of ls)) || changes_mode ls
 
--- a line of the new name, which fits these extended lines of a git header, and a hunk directly behind it
+-- a line begins as the range line of a hunk does; where it is none, it is damaged
+abbrev pub is_range_like : List ℕ → Bool
+is_range_like line = is_some (after (codes "@@ -") line)
+
+-- such a line is the first of these lines
+abbrev pub begins_range : List (List ℕ) → Bool
+begins_range [] = false
+begins_range (line ∷ rest) = is_range_like line
+
+-- a line of the new name, which fits these extended lines of a git header, and a hunk, damaged or not, directly behind it
 abbrev pub has_new_name : List (List ℕ) → List (List ℕ) → Bool
 has_new_name run [] = false
-has_new_name run (line ∷ rest) = starts (codes "+++ ") line && (new_fits run line && begins_hunk rest)
+has_new_name run (line ∷ rest) = starts (codes "+++ ") line && (new_fits run line && begins_range rest)
 
--- lines of both names, which fit them, and a hunk directly behind them
+-- lines of both names, which fit them, and such a hunk directly behind them
 abbrev pub has_names : List (List ℕ) → List (List ℕ) → Bool
 has_names run [] = false
 has_names run (line ∷ rest) = starts (codes "--- ") line && (old_fits run line && has_new_name run rest)
 
--- a git header leads what begins with these lines: a hunk, or lines of both names that fit it, and a hunk
+-- a git header leads what begins with these lines: a hunk, damaged or not, or lines of both names that fit it, and such a hunk
 abbrev pub leads : List (List ℕ) → List (List ℕ) → Bool
-leads run ls = begins_hunk ls || has_names run ls
+leads run ls = begins_range ls || has_names run ls
 
 -- a bare git header begins these lines: it leads nothing that follows it directly, and asks for something on its own. It is
--- judged by its lines, whatever form is asked for. `GIT binary patch` behind it is a fault behind that file patch. Lines of
--- names in front of a header that hunks follow directly say nothing
+-- judged by its lines, whatever form is asked for; before a damaged hunk it is neither bare nor in front of an opening, so it is
+-- text. `GIT binary patch` behind it is a fault behind that file patch. Lines of names in front of a header that hunks follow
+-- directly say nothing
 unfoldable pub begins_bare : List (List ℕ) → Bool
 begins_bare [] = false
 begins_bare (line ∷ rest) = is_git_line line && (not (leads (extended_run rest) (behind_run rest)) && asks_alone (extended_run rest))

@@ -3,7 +3,7 @@
 ghost use Rattle.std.specs.Prelude.{◌≡◌, ℕ, ◌<◌, ◌≤◌, ◌+◌, ◌^◌, true, false, not, ◌&&◌, List, ◌++◌, length, drop, slice_range, sum_by, IfSome};
 ghost use Rattle.line_list.specs.Lines.{lines, IsLineAt};
 ghost use Rattle.patch_header.specs.Content.{has_dot};
-ghost use Rattle.patch_header.specs.GitHeaders.{git_header, extended_run, behind_run, asks_alone, is_extended, has_new_name, has_names, leads, begins_bare};
+ghost use Rattle.patch_header.specs.GitHeaders.{git_header, extended_run, behind_run, asks_alone, is_extended, is_range_like, begins_range, has_new_name, has_names, leads, begins_bare};
 ghost use Rattle.patch_header.specs.Openings.{begins_binary, tells_binary};
 ghost use Rattle.patch_header.specs.Said.{SaysWithin};
 ghost use Rattle.patch_header.specs.Kept.{bare_said};
@@ -21,7 +21,7 @@ use crate::names_fit::{new_fits, old_fits};
 use crate::region::{Seen, Tail, tail_of};
 use crate::values::{index_in, whole_in, word_in};
 use header_record::Header;
-use hunk_core::Form;
+use hunk_core::{Form, after_prefix};
 use line_list::next_line;
 use stamp::Stamp;
 
@@ -70,8 +70,26 @@ fn extended_from(text: &[u8], at: usize, number: u64) -> Block
     here
 }
 
-/// Whether a line of the new name of a git header whose extended lines begin at `from` stands here, and a hunk
-/// directly behind it.
+/// Whether a line begins as the range line of a hunk does.
+fn is_range_like(line: &[u8]) -> bool
+    ensures { result ≡ is_range_like line.now }
+{
+    after_prefix(line, b"@@ -").is_some()
+}
+
+/// Whether a hunk stands here, damaged or not.
+fn at_range(text: &[u8], at: usize) -> bool
+    requires { at ≤ length text.now }
+    ensures { result ≡ begins_range (lines (drop at text.now)) }
+{
+    match next_line(text, at) {
+        None => false,
+        Some(end) => is_range_like(&text[at..end]),
+    }
+}
+
+/// Whether a line of the new name of a git header whose extended lines begin at `from` stands here, and a hunk,
+/// damaged or not, directly behind it.
 fn has_new_name(text: &[u8], from: usize, at: usize) -> bool
     requires from { from ≤ length text.now }
     requires within { at ≤ length text.now }
@@ -81,13 +99,12 @@ fn has_new_name(text: &[u8], from: usize, at: usize) -> bool
         None => false,
         Some(end) => {
             let line = &text[at..end];
-            starts(line, b"+++ ")
-                && (new_fits(text, from, line) && unified_form::at_opening(text, end))
+            starts(line, b"+++ ") && (new_fits(text, from, line) && at_range(text, end))
         }
     }
 }
 
-/// Whether lines of both its names stand here, and a hunk directly behind them.
+/// Whether lines of both its names stand here, and such a hunk directly behind them.
 fn has_names(text: &[u8], from: usize, at: usize) -> bool
     requires from { from ≤ length text.now }
     requires within { at ≤ length text.now }
@@ -102,13 +119,13 @@ fn has_names(text: &[u8], from: usize, at: usize) -> bool
     }
 }
 
-/// Whether that git header leads what stands here: a hunk, or lines of both its names and a hunk.
+/// Whether that git header leads what stands here: a hunk, damaged or not, or lines of both its names and such a hunk.
 fn leads(text: &[u8], from: usize, at: usize) -> bool
     requires from { from ≤ length text.now }
     requires within { at ≤ length text.now }
     ensures { result ≡ leads (extended_run (lines (drop from text.now))) (lines (drop at text.now)) }
 {
-    unified_form::at_opening(text, at) || has_names(text, from, at)
+    at_range(text, at) || has_names(text, from, at)
 }
 
 /// Whether the git header whose extended lines begin at a place asks for something on its own, and leads nothing

@@ -9,7 +9,7 @@ ghost use Rattle.patch_header.specs.Region.{Row, tail_of, last_tail};
 ghost use Rattle.patch_header.specs.Values.{is_blank, is_white, unblanked, bare_length, name_length, index_length, word_length};
 ghost use Rattle.unified_form.specs.Hunks.{begins_hunk};
 ghost use Rattle.patch_header.specs.NamesFit.{old_fits, new_fits, tells, fits};
-ghost use Rattle.patch_header.specs.GitHeaders.{starts, is_git_line, is_index_line, is_extended, extended_run, behind_run, has_line, action_of, leads, begins_bare};
+ghost use Rattle.patch_header.specs.GitHeaders.{starts, is_git_line, is_index_line, is_extended, extended_run, behind_run, has_line, action_of, begins_range, leads, begins_bare};
 ghost use Rattle.patch_header.specs.GitRows.{led_rows, are_alike, has_halves};
 ghost use Rattle.patch_header.specs.declared.region.Tail.{Tail};
 
@@ -70,11 +70,14 @@ pub fn git_headers_in_words()
     ensures modes { (git : List ℕ) (rest : List (List ℕ)) → is_git_line git ≡ true → leads (extended_run rest) (behind_run rest) ≡ false → has_line (codes "old mode ") (extended_run rest) ≡ true → has_line (codes "new mode ") (extended_run rest) ≡ true
         → begins_bare (git ∷ rest) ≡ true }
     // It leads no hunk behind a line of the old name with another name than it gives, nor behind such a line of the new name.
-    ensures old_apart { (old : List ℕ) (run rest : List (List ℕ)) → begins_hunk (old ∷ rest) ≡ false → old_fits run old ≡ false → leads run (old ∷ rest) ≡ false }
-    ensures new_apart { (old new : List ℕ) (run rest : List (List ℕ)) → begins_hunk (old ∷ new ∷ rest) ≡ false → new_fits run new ≡ false → leads run (old ∷ new ∷ rest) ≡ false }
+    ensures old_apart { (old : List ℕ) (run rest : List (List ℕ)) → begins_range (old ∷ rest) ≡ false → old_fits run old ≡ false → leads run (old ∷ rest) ≡ false }
+    ensures new_apart { (old new : List ℕ) (run rest : List (List ℕ)) → begins_range (old ∷ new ∷ rest) ≡ false → new_fits run new ≡ false → leads run (old ∷ new ∷ rest) ≡ false }
     // Where its extended lines give no name to a side, each name fits, and `/dev/null` always does.
     ensures unnamed { (one two name : List ℕ) (run : List (List ℕ)) → list_any (tells one two) run ≡ false → fits one two run name ≡ true }
     ensures no_file { (one two : List ℕ) (run : List (List ℕ)) → fits one two run (codes "/dev/null") ≡ true }
+    // The range line of a hunk begins as one, so a git header that leads a hunk is never bare, and none is before a damaged one.
+    ensures range { (rest : List (List ℕ)) → begins_hunk rest ≡ true → begins_range rest ≡ true }
+    ensures leading { (git : List ℕ) (rest : List (List ℕ)) → leads (extended_run rest) (behind_run rest) ≡ true → begins_bare (git ∷ rest) ≡ false }
     // One whose extended lines are all of contents is ordinary text.
     ensures contents { (git : List ℕ) (rest : List (List ℕ)) → AllByRecursion (λ l. is_index_line l ≡ true) (extended_run rest) → begins_bare (git ∷ rest) ≡ false }
     // A git header leads an opening where a line of each name, and nothing else, stands between.

@@ -33,7 +33,7 @@ use Rattle.reading_law.specs.Said.{header_said, bare_header}
 use Rattle.reading_law.specs.Following.{Spell, IsFilePatch, AreFilePatches}
 use Rattle.reading_law.specs.Joins.{begin_with, begin_with_git, BeginCleanly, JoinCleanly, Part, all_lines, FitTogether}
 use Rattle.reading_law.proofs.Quiet.{LookAlike, quiet-alike}
-use Rattle.reading_law.proofs.Solid.{IsSolid, form-front, front-solid, git-solid, solid-shows, solid-alike}
+use Rattle.reading_law.proofs.Solid.{IsSolid, form-front, front-solid, git-solid, git-unranged, solid-shows, solid-alike}
 use Rattle.reading_law.proofs.Spelling.{backslash-none, context-hunks, edits-joined}
 
 -- ---- the change
@@ -155,11 +155,11 @@ record ShowsGit (others : List (List ℕ)) : Type 0 where
   leads_none : (run : List (List ℕ)) → leads run others ≡ false
   text : begins_binary others ≡ false
 
-git-shows : (others : List (List ℕ)) → begin_with_git others ≡ true → unified_hunks.begins_hunk others ≡ false → ShowsGit others
-git-shows [] h hunk = record { run = run-none; behind = behind-none; leads_none = λ run. refl; text = refl }
-git-shows (line ∷ more) h hunk =
+git-shows : (others : List (List ℕ)) → begin_with_git others ≡ true → ShowsGit others
+git-shows [] h = record { run = run-none; behind = behind-none; leads_none = λ run. refl; text = refl }
+git-shows (line ∷ more) h =
     let s = solid-shows line more (git-solid line h) in
-    record { run = s.run; behind = s.behind; leads_none = λ run. ap (λ v. v || has_names run (line ∷ more)) hunk ∙ s.names run; text = s.text }
+    record { run = s.run; behind = s.behind; leads_none = λ run. ap (λ v. v || has_names run (line ∷ more)) (git-unranged line h) ∙ s.names run; text = s.text }
 
 bare-by : (line : List ℕ) (rest others : List (List ℕ)) → (extended_run (rest ++ others) ≡ extended_run (rest ++ [])) → leads (extended_run (rest ++ others)) (behind_run (rest ++ others)) ≡ false → begins_bare (line ∷ (rest ++ [])) ≡ true
     → begins_bare (line ∷ (rest ++ others)) ≡ true
@@ -176,10 +176,10 @@ no-bare : begins_bare [] ≡ true → ⊥
 unfolding begins_bare
 no-bare k = absurd cc
 
-bare-joined : (body others : List (List ℕ)) → body ≡ git_header (body ++ []) → begin_with_git others ≡ true → unified_hunks.begins_hunk others ≡ false → begins_bare (body ++ []) ≡ true → (begins_bare (body ++ others) ≡ true) × (body ≡ git_header (body ++ others)) × (tells_binary (body ++ others) ≡ false)
-bare-joined [] others e git hunk h = absurd (no-bare h)
-bare-joined (line ∷ rest) others e git hunk h =
-    let s = git-shows others git hunk in
+bare-joined : (body others : List (List ℕ)) → body ≡ git_header (body ++ []) → begin_with_git others ≡ true → begins_bare (body ++ []) ≡ true → (begins_bare (body ++ others) ≡ true) × (body ≡ git_header (body ++ others)) × (tells_binary (body ++ others) ≡ false)
+bare-joined [] others e git h = absurd (no-bare h)
+bare-joined (line ∷ rest) others e git h =
+    let s = git-shows others git in
     let alone : rest ≡ extended_run (rest ++ []) = run-tail line rest (extended_run (rest ++ [])) e in
     let more = run-joined rest others alone s.run s.behind in
     (bare-by line rest others (more.0 ∙ alone) (ap (leads (extended_run (rest ++ others))) more.1 ∙ s.leads_none (extended_run (rest ++ others))) h, ap (λ ls. line ∷ ls) (sym more.0), ap begins_binary more.1 ∙ s.text)
@@ -191,13 +191,13 @@ module _ (ways : Ways) (body others : List (List ℕ)) (change : PlainChange) (c
   stop-joined (Opening form) s git h = (opening-words ways form (body ++ others)).1 (and-then (admits ways.only form) _ _ (opens-joined ways.only form body others) ((opening-words ways form (body ++ [])).0 h))
   stop-joined Bare s git h =
       let stops : stops_bare ways (body ++ []) ≡ true = (bare-words ways (body ++ [])).0 h in
-      let joined = bare-joined body others s.0 (git refl) clean.unified (stops-begins ways (body ++ []) stops) in
+      let joined = bare-joined body others s.0 (git refl) (stops-begins ways (body ++ []) stops) in
       (bare-words ways (body ++ others)).1 (stops-by ways (body ++ others) (and_left ways.git _ stops) joined.0 joined.2)
   stop-joined Binary s git h = absurd s
 
   spell-joined : (stop : Stop) → Spell stop body [] change → (stop ≡ Bare → begin_with_git others ≡ true) → stop_at ways (body ++ []) ≡ Some stop → Spell stop body others change
   spell-joined (Opening form) s git h = change-joined body others clean form change s
-  spell-joined Bare s git h = ((bare-joined body others s.0 (git refl) clean.unified (stops-begins ways (body ++ []) ((bare-words ways (body ++ [])).0 h))).1, s.1)
+  spell-joined Bare s git h = ((bare-joined body others s.0 (git refl) (stops-begins ways (body ++ []) ((bare-words ways (body ++ [])).0 h))).1, s.1)
   spell-joined Binary s git h = absurd s
 
 -- ---- a file patch

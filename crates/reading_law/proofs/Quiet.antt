@@ -6,13 +6,12 @@ use Rattle.std.proofs.lemmas.List.Folds.{list_any-append}
 use Rattle.std.proofs.lemmas.Bool.{or_left, or_right}
 use Rattle.hunk_core.specs.declared.Form.{Form}
 use Rattle.hunk_core.specs.declared.Form.TheVariants.{Unified, Context, Normal, Ed}
-use Rattle.unified_form.specs.Hunks as unified
 use Rattle.context_form.specs.Openings.{is_stars, begins_old}
 use Rattle.normal_form.specs.Commands as normal
 use Rattle.normal_form.specs.Hunks.{begins_marked}
 use Rattle.ed_form.specs.Commands.{is_command}
 use Rattle.patch_header.specs.Content.{is_dot, has_dot}
-use Rattle.patch_header.specs.GitHeaders.{starts, is_git_line, is_extended, extended_run, behind_run, asks_alone, has_new_name, has_names, leads, begins_bare}
+use Rattle.patch_header.specs.GitHeaders.{starts, is_git_line, is_extended, extended_run, behind_run, asks_alone, begins_range, has_new_name, has_names, leads, begins_bare}
 use Rattle.patch_header.specs.NamesFit.{old_fits, new_fits}
 use Rattle.patch_header.specs.Openings.{admits, asks_dot, opens, begins_binary, is_passed_over, stops_binary, stops_bare, stop_at}
 use Rattle.patch_header.specs.Steps.{AreQuiet}
@@ -23,7 +22,7 @@ use Rattle.patch_header.proofs.Stands.{nothing-words}
 pub record LookAlike (rest other : List (List ℕ)) : Type 0 where
   pub marked : begins_marked rest ≡ begins_marked other
   pub ranged : begins_old rest ≡ begins_old other
-  pub hunk : unified.begins_hunk rest ≡ unified.begins_hunk other
+  pub hunk : begins_range rest ≡ begins_range other
   pub new_name : (run : List (List ℕ)) → has_new_name run rest ≡ has_new_name run other
   pub names : (run : List (List ℕ)) → has_names run rest ≡ has_names run other
   pub run : extended_run rest ≡ extended_run other
@@ -40,7 +39,7 @@ module _ (rest other : List (List ℕ)) (same : LookAlike rest other) where
   more-ranged [] = same.ranged
   more-ranged (m ∷ more) = refl
 
-  more-hunk : (more : List (List ℕ)) → unified.begins_hunk (more ++ rest) ≡ unified.begins_hunk (more ++ other)
+  more-hunk : (more : List (List ℕ)) → begins_range (more ++ rest) ≡ begins_range (more ++ other)
   more-hunk [] = same.hunk
   more-hunk (m ∷ more) = refl
 
@@ -53,7 +52,7 @@ module _ (rest other : List (List ℕ)) (same : LookAlike rest other) where
   more-names run (m ∷ more) = ap (λ v. starts (codes "--- ") m && (old_fits run m && v)) (more-new run more)
 
   more-leads : (run more : List (List ℕ)) → leads run (more ++ rest) ≡ leads run (more ++ other)
-  more-leads run more = ap (λ v. v || has_names run (more ++ rest)) (more-hunk more) ∙ ap (λ v. unified.begins_hunk (more ++ other) || v) (more-names run more)
+  more-leads run more = ap (λ v. v || has_names run (more ++ rest)) (more-hunk more) ∙ ap (λ v. begins_range (more ++ other) || v) (more-names run more)
 
   more-run : (more : List (List ℕ)) → extended_run (more ++ rest) ≡ extended_run (more ++ other)
   unfolding extended_run

@@ -6,14 +6,13 @@ use Rattle.hunk_core.specs.declared.Form.{Form}
 use Rattle.hunk_core.specs.declared.Form.TheVariants.{Unified, Context, Normal, Ed}
 use Rattle.hunk_core.specs.LineTests.{after}
 use Rattle.num_text.specs.Numbers.{is_digit}
-use Rattle.unified_form.specs.Hunks as unified
 use Rattle.context_form.specs.Openings as context
 use Rattle.normal_form.specs.Hunks.{begins_marked}
 use Rattle.patch_header.specs.Content.{content, is_binary}
-use Rattle.patch_header.specs.GitHeaders.{starts, is_git_line, is_mode_line, is_name_line, is_index_line, is_extended, extended_run, behind_run, has_new_name, has_names, leads}
+use Rattle.patch_header.specs.GitHeaders.{starts, is_git_line, is_mode_line, is_name_line, is_index_line, is_extended, extended_run, behind_run, is_range_like, begins_range, has_new_name, has_names, leads}
 use Rattle.patch_header.specs.NamesFit.{old_fits, new_fits}
 use Rattle.patch_header.specs.Openings.{begins, begins_binary}
-use Rattle.patch_header.proofs.Fronts.{front, and_left, and_right, after-front, unified-front, context-front, range-front, normal-range, ed-range, content-front, binary-front}
+use Rattle.patch_header.proofs.Fronts.{front, and_left, and_right, after-front, ranged-front, unified-front, context-front, range-front, normal-range, ed-range, content-front, binary-front}
 use Rattle.patch_header.proofs.GitWords.{starts-words}
 use Rattle.patch_header.proofs.ScanLemmas.{run-stops, behind-stops}
 use Rattle.reading_law.proofs.Quiet.{LookAlike}
@@ -129,6 +128,10 @@ git-is line rest e = record { extended = rw e refl; minus = rw e refl; plus = rw
 pub git-solid : (line : List ℕ) → is_git_line line ≡ true → IsSolid line
 git-solid line h = let w = (starts-words (codes "diff --git ") line).0 h in git-is line w.0 w.1
 
+-- nor does it begin as the range line of a hunk
+pub git-unranged : (line : List ℕ) → is_git_line line ≡ true → is_range_like line ≡ false
+git-unranged line h = false_from_ne_true (is_range_like line) (λ k. let a : front line ≡ 100 = starts-front 100 99 (codes "iff --git ") line refl h in let b : front line ≡ 64 = ranged-front line k in omega (arith, a, b))
+
 -- what such a line shows to those in front
 pub record ShowsSolid (ls : List (List ℕ)) : Type 0 where
   pub run : extended_run ls ≡ []
@@ -141,13 +144,13 @@ pub solid-shows : (line : List ℕ) (more : List (List ℕ)) → IsSolid line �
 solid-shows line more s = record {
   run = run-stops line more s.extended;
   behind = behind-stops line more s.extended;
-  new_name = λ run. ap (λ v. v && (new_fits run line && unified.begins_hunk more)) s.plus;
+  new_name = λ run. ap (λ v. v && (new_fits run line && begins_range more)) s.plus;
   names = λ run. ap (λ v. v && (old_fits run line && has_new_name run more)) s.minus;
   text = s.text;
 }
 
 -- lines that begin with the same line, or with another one that is as solid, look alike
-pub solid-alike : (rest other : List (List ℕ)) → begins_marked rest ≡ begins_marked other → context.begins_old rest ≡ context.begins_old other → unified.begins_hunk rest ≡ unified.begins_hunk other → ShowsSolid rest → ShowsSolid other → LookAlike rest other
+pub solid-alike : (rest other : List (List ℕ)) → begins_marked rest ≡ begins_marked other → context.begins_old rest ≡ context.begins_old other → begins_range rest ≡ begins_range other → ShowsSolid rest → ShowsSolid other → LookAlike rest other
 solid-alike rest other marked ranged hunk s t = record {
   marked = marked;
   ranged = ranged;
@@ -158,7 +161,7 @@ solid-alike rest other marked ranged hunk s t = record {
   behind = λ run.
       ap (leads run) s.behind
       ∙ ap (λ v. v || has_names run rest) hunk
-      ∙ ap (λ v. unified.begins_hunk other || v) (s.names run ∙ sym (t.names run))
+      ∙ ap (λ v. begins_range other || v) (s.names run ∙ sym (t.names run))
       ∙ sym (ap (leads run) t.behind);
   text = s.text ∙ sym t.text;
   told = ap begins_binary s.behind ∙ s.text ∙ sym t.text ∙ sym (ap begins_binary t.behind);

@@ -72,6 +72,16 @@ const ROWS: &[&str] = &[
     "git=diff --git f\nnew file mode 100644\n--- a/f\n+++ b/g\n@@ -0,0 +1 @@\n+a\n=Unified 5 3; [a/f] [b/g] [] []; Unknown, Unknown; New false [] []; [] [100644]",
     // Without a hunk directly behind them the lines of both names lead nothing.
     "git=diff --git a/f b/f\nnew mode 100755\n--- a/f\n+++ b/f\n\n@@ -1 +1 @@\n=Unified 6 3; [a/f] [b/f] [] []; Unknown, Unknown; Plain false [] []",
+    // A header directly before a damaged hunk is text, with the lines of names between; the next opening is read without it.
+    "git=diff --git a/f b/f\nnew file mode 100644\n--- /dev/null\n+++ b/f\n@@ -x\n+line\n=End",
+    "git=diff --git a/x b/y\nrename from x\nrename to y\n--- a/x\n+++ b/y\n@@ -=End",
+    "git=diff --git a/f b/f\nold mode 100644\nnew mode 100755\n@@ -,1 +1 @@\n-a\n+b\n=End",
+    "git=diff --git a/f b/f\nnew file mode 100644\n--- /dev/null\n+++ b/f\n@@ -x\n+line\n@@ -0,0 +1 @@\n+a\n=Unified 7 3; [/dev/null] [b/f] [] []; Unknown, Unknown; Plain false [] []",
+    "git=diff --git a/e b/e\nnew file mode 100644\n@@ -x\ndiff --git a/f b/f\ndeleted file mode 100644\n=Unified 4 4; [a/f] [b/f] [] []; Unknown, Unknown; Deleted true [] []; [100644] []",
+    // It stays one behind lines of other names, or another line, or before one that begins otherwise.
+    "git=diff --git a/x b/y\nrename from x\nrename to y\n--- a/x\n+++ b/z\n@@ -x\n=Unified 1 1; [] [] [] []; Unknown, Unknown; Rename true [x] [y]",
+    "git=diff --git a/f b/f\nnew file mode 100644\n\n@@ -x\n=Unified 1 1; [a/f] [b/f] [] []; Unknown, Unknown; New true [] []; [] [100644]",
+    "git=diff --git a/f b/f\nnew file mode 100644\n@@ x\n=Unified 1 1; [a/f] [b/f] [] []; Unknown, Unknown; New true [] []; [] [100644]",
     // Both modes alone are a file patch, one of them is ordinary text.
     "git=diff --git a/f b/f\nold mode 100644\nnew mode 100755\n=Unified 1 1; [a/f] [b/f] [] []; Unknown, Unknown; Plain true [] []; [100644] [100755]",
     "git=diff --git a/f b/f\nold mode 100644\nindex 1..2\n=End",

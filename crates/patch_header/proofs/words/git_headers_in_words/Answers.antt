@@ -1,4 +1,4 @@
-use Rattle.patch_header.proofs.GitWords.{starts-words, run-words, all-words, new-words, deleted-words, rename-words, copy-words, modes-words, old-apart-words, new-apart-words, unnamed-words, no-file-words, contents-words, led-words, halves-words}
+use Rattle.patch_header.proofs.GitWords.{starts-words, run-words, all-words, new-words, deleted-words, rename-words, copy-words, modes-words, old-apart-words, new-apart-words, unnamed-words, no-file-words, range-words, leading-words, contents-words, led-words, halves-words}
 use Rattle.patch_header.proofs.words.git_headers_in_words.Goals as goal
 
 pub returns-clause-starts : goal.returns-clause-starts
@@ -24,6 +24,12 @@ returns-clause-copy c = copy-words
 
 pub returns-clause-modes : goal.returns-clause-modes
 returns-clause-modes c = modes-words
+
+pub returns-clause-range : goal.returns-clause-range
+returns-clause-range c = range-words
+
+pub returns-clause-leading : goal.returns-clause-leading
+returns-clause-leading c = leading-words
 
 pub returns-clause-contents : goal.returns-clause-contents
 returns-clause-contents c = contents-words
