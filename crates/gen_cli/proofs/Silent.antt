@@ -110,16 +110,16 @@ module _ (o : PlainOptions) (silent : o.silent ≡ true) where
   silenced_none : (text : List ℕ) → silenced o text ≡ []
   silenced_none text = ap (λ (b : Bool). if b then [] else text) silent
 
-  hunk_none : (number : ℕ) (moved : ℤ) (h : PlainHunk) (v : Verdict) → hunk_said o number moved h v ≡ []
-  hunk_none number moved h Untried = refl
-  hunk_none number moved h Ignored = refl
-  hunk_none number moved h Nowhere = silenced_none _
-  hunk_none number moved h (At line fuzz offset) = silenced_none _
+  hunk_none : (end : Option Bool) (number : ℕ) (moved : ℤ) (h : PlainHunk) (v : Verdict) → hunk_said o end number moved h v ≡ []
+  hunk_none end number moved h Untried = refl
+  hunk_none end number moved h Ignored = refl
+  hunk_none end number moved h Nowhere = silenced_none _
+  hunk_none end number moved h (At line fuzz offset) = silenced_none _
 
-  hunks_none : (before rows : List (PlainHunk × Verdict)) → hunks_said o before rows ≡ []
+  hunks_none : (end : Option Bool) (before rows : List (PlainHunk × Verdict)) → hunks_said o end before rows ≡ []
   unfolding hunks_said
-  hunks_none before [] = refl
-  hunks_none before (row ∷ rows) = ap (λ (l : List ℕ). l ++ hunks_said o (before ++ row ∷ []) rows) (hunk_none (length before + 1) _ row.0 row.1) ∙ hunks_none (before ++ row ∷ []) rows
+  hunks_none end before [] = refl
+  hunks_none end before (row ∷ rows) = ap (λ (l : List ℕ). l ++ hunks_said o end (before ++ row ∷ []) rows) (hunk_none end (length before + 1) _ row.0 row.1) ∙ hunks_none end (before ++ row ∷ []) rows
 
   script_none : (address : ℕ) (vs : List Verdict) → script_said o address vs ≡ []
   script_none address [] = refl
@@ -128,15 +128,15 @@ module _ (o : PlainOptions) (silent : o.silent ≡ true) where
   script_none address (Nowhere ∷ vs) = silenced_none _
   script_none address (At line fuzz offset ∷ vs) = silenced_none _
 
-  change_none : (side : Side) (change : PlainChange) (vs : List Verdict) → change_said o side change vs ≡ []
-  change_none side (hunks hs) vs = hunks_none [] (rows_of side hs vs)
-  change_none side (script es) vs = script_none (first_address es) vs
+  change_none : (end : Option Bool) (side : Side) (change : PlainChange) (vs : List Verdict) → change_said o end side change vs ≡ []
+  change_none end side (hunks hs) vs = hunks_none end [] (rows_of side hs vs)
+  change_none end side (script es) vs = script_none (first_address es) vs
 
 tried_none : (t : PlainTurn) (w : Target) (x : Tried) → t.options.silent ≡ true → (some_failed x.verdicts || is_kept t x) ≡ false → tried_said t w x ≡ []
 unfolding tried_said
 tried_none t w x silent good =
     let both = or_false (some_failed x.verdicts) (is_kept t x) good in
-    ap (λ (l : List ℕ). l ++ (kept_said t w x ++ failures_said t w x)) (change_none t.options silent x.side t.item.patch.change x.verdicts)
+    ap (λ (l : List ℕ). l ++ (kept_said t w x ++ failures_said t w x)) (change_none t.options silent x.end x.side t.item.patch.change x.verdicts)
     ∙ ap (λ (l : List ℕ). l ++ failures_said t w x) (ap (λ (b : Bool). if b then not_deleting_line (shown w) else []) both.1)
     ∙ ap (λ (b : Bool). if b then failures_line (failed x.verdicts) (total t) (named_reject t w) else []) both.0
 

@@ -78,13 +78,13 @@ said-stop {S = S} {view = view} {same = same} {old = old} {new = new} {left = le
 pub said-all : {O R E : Type 0} {view : O → SinkView} {same : O → O → Type 0} {old new : O} {whole : List ℕ} (x : R) → HasSaid view same old new [] whole → Puts {E = E} view same old new (Ok x) whole
 said-all {view = view} {same = same} {old = old} {new = new} x so = puts-done x (subst (λ (l : List ℕ). HasPut view same old new l) (sym (append-nil so.said) ∙ so.all) so.put)
 
-pub said-step : (o : PlainOptions) (rows : List Row) (i : ℕ) (row : Row) → i < length rows → drop i rows ≡ row ∷ drop (i + 1) rows
-    → hunks_said o (take i rows) (drop i rows) ≡ hunk_said o (i + 1) (net (take i rows)) row.0 row.1 ++ hunks_said o (take (i + 1) rows) (drop (i + 1) rows)
+pub said-step : (o : PlainOptions) (end : Option Bool) (rows : List Row) (i : ℕ) (row : Row) → i < length rows → drop i rows ≡ row ∷ drop (i + 1) rows
+    → hunks_said o end (take i rows) (drop i rows) ≡ hunk_said o end (i + 1) (net (take i rows)) row.0 row.1 ++ hunks_said o end (take (i + 1) rows) (drop (i + 1) rows)
 unfolding hunks_said
-said-step o rows i row lt here =
-    ap (hunks_said o (take i rows)) here
-    ∙ ap (λ n. hunk_said o (n + 1) (net (take i rows)) row.0 row.1 ++ hunks_said o (take i rows ++ row ∷ []) (drop (i + 1) rows)) (length-take-le i rows (omega arith))
-    ∙ ap (λ (before : List Row). hunk_said o (i + 1) (net (take i rows)) row.0 row.1 ++ hunks_said o before (drop (i + 1) rows)) (sym (taken_one rows i row lt here))
+said-step o end rows i row lt here =
+    ap (hunks_said o end (take i rows)) here
+    ∙ ap (λ n. hunk_said o end (n + 1) (net (take i rows)) row.0 row.1 ++ hunks_said o end (take i rows ++ row ∷ []) (drop (i + 1) rows)) (length-take-le i rows (omega arith))
+    ∙ ap (λ (before : List Row). hunk_said o end (i + 1) (net (take i rows)) row.0 row.1 ++ hunks_said o end before (drop (i + 1) rows)) (sym (taken_one rows i row lt here))
   where
     same : (x y : Row) (xs : List Row) → x ∷ xs ≡ y ∷ xs → y ≡ x
     same x y xs e = cc
@@ -93,9 +93,9 @@ said-step o rows i row lt here =
     taken_one rows i row lt here = let e : row ∷ drop (i + 1) rows ≡ get_or rows i row ∷ drop (i + 1) rows = sym here ∙ drop_more rows i row lt in
         take_more rows i row lt ∙ ap (λ (r : Row). take i rows ++ r ∷ []) (same row (get_or rows i row) (drop (i + 1) rows) e)
 
-pub said-end : (o : PlainOptions) (rows : List Row) (i : ℕ) → length rows ≤ i → hunks_said o (take i rows) (drop i rows) ≡ []
+pub said-end : (o : PlainOptions) (end : Option Bool) (rows : List Row) (i : ℕ) → length rows ≤ i → hunks_said o end (take i rows) (drop i rows) ≡ []
 unfolding hunks_said
-said-end o rows i end = ap (hunks_said o (take i rows)) (drop_all i rows end)
+said-end o first rows i end = ap (hunks_said o first (take i rows)) (drop_all i rows end)
 
 -- where a test holds the text that stands on it is the whole
 pub where_true : {R E : Type 0} {a b : SinkView} (r : Result R E) (test : Bool) (p : List ℕ) → test ≡ true → Writes a b r p → Writes a b r (if test then p else [])

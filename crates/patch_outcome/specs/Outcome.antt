@@ -50,7 +50,7 @@ failures_said t w x = if some_failed x.verdicts then failures_line (failed x.ver
 
 -- what is said once the hunks were tried
 unfoldable pub tried_said : PlainTurn → Target → Tried → List ℕ
-tried_said t w x = change_said t.options x.side t.item.patch.change x.verdicts ++ (kept_said t w x ++ failures_said t w x)
+tried_said t w x = change_said t.options x.end x.side t.item.patch.change x.verdicts ++ (kept_said t w x ++ failures_said t w x)
 
 -- ---- marks
 

@@ -4,7 +4,7 @@ ghost use Rattle.std.specs.Prelude.{◌≡◌, ◌<◌, ◌^◌, ℕ, List, [], 
 ghost use Rattle.std.specs.Option.{option_copied};
 ghost use Rattle.outside.specs.SinkView.{IsSinkCall, Writes};
 ghost use Rattle.hunk_core.specs.PlainHunk.{hunk_of, hunks_of};
-ghost use Rattle.hunk_core.specs.Turned.{turned};
+ghost use Rattle.hunk_core.specs.Turned.{turned, IsLawful};
 ghost use Rattle.file_patch.specs.PlainPatch.{AreLawfulHunks, change_of, row_count, is_script};
 ghost use Rattle.ed_form.specs.PlainEdit.{edits_of, IsLawfulScript};
 ghost use Rattle.reject_text.specs.Rejects.{rows_of};
@@ -24,28 +24,29 @@ use hunk_apply::Session;
 use hunk_core::{Hunk, Side, Verdict};
 use outside::{Failed, Sink};
 use patch_options::Options;
-use patch_task::{acts_deleted, is_bare, shown, shown_reject, takes_files};
+use patch_task::{acts_deleted, ends_otherwise, is_bare, shown, shown_reject, takes_files};
 use reject_text::placed_growth;
 use say_text::{say_failed, say_failures, say_not_deleting, say_placed};
 
-/// Says what came of the hunks.
+/// Says what came of the hunks, in a file whose first line ends so.
 pub fn tell<O: Sink>(
     turn: &Turn<'_>,
     target: &Target,
     side: Side,
     session: &Session,
     verdicts: &[Verdict],
+    end: Option<bool>,
     out: &mut O,
 ) -> Result<(), Failed>
     requires turn { IsTurn turn.now }
     requires named { IsNamed target.now }
     requires rows { length verdicts.now ≡ row_count turn.now.task.patch.now.change }
     requires tried { All IsTried verdicts.now }
-    ensures writes { (x : Tried) → x.side ≡ side → x.verdicts ≡ verdicts.now → IsSession session.now x.verdicts x.text → Writes (O.view out.old) (O.view out.new) result (tried_said (plain_turn turn.now) target.now x) }
+    ensures writes { (x : Tried) → x.side ≡ side → x.verdicts ≡ verdicts.now → IsSession session.now x.verdicts x.text → x.end ≡ end → Writes (O.view out.old) (O.view out.new) result (tried_said (plain_turn turn.now) target.now x) }
     ensures call { IsSinkCall (O.view out.old) (O.view out.new) result }
     ensures rest { O.same_rest out.old out.new }
 {
-    say_change(turn, side, verdicts, out)?;
+    say_change(turn, side, verdicts, end, out)?;
     say_kept(turn, target, side, session, out)?;
     say_rejected(turn, target, session, out)
 }
@@ -55,12 +56,13 @@ fn say_change<O: Sink>(
     turn: &Turn<'_>,
     side: Side,
     verdicts: &[Verdict],
+    end: Option<bool>,
     out: &mut O,
 ) -> Result<(), Failed>
     requires turn { IsTurn turn.now }
     requires rows { length verdicts.now ≡ row_count turn.now.task.patch.now.change }
     requires tried { All IsTried verdicts.now }
-    ensures writes { Writes (O.view out.old) (O.view out.new) result (change_said (plain_turn turn.now).options side (plain_turn turn.now).item.patch.change verdicts.now) }
+    ensures writes { Writes (O.view out.old) (O.view out.new) result (change_said (plain_turn turn.now).options end side (plain_turn turn.now).item.patch.change verdicts.now) }
     ensures rest { O.same_rest out.old out.new }
 {
     match &turn.task.patch.change {
@@ -71,6 +73,7 @@ fn say_change<O: Sink>(
                 hunks,
                 side,
                 verdicts,
+                end,
                 out,
             )
         }
@@ -84,19 +87,30 @@ fn say_hunks<O: Sink>(
     hunks: &[Hunk],
     side: Side,
     verdicts: &[Verdict],
+    end: Option<bool>,
     out: &mut O,
 ) -> Result<(), Failed>
     requires lawful { AreLawfulHunks text.now hunks.now }
     requires rows { length verdicts.now ≡ length hunks.now }
     requires tried { All IsTried verdicts.now }
-    ensures writes { Writes (O.view out.old) (O.view out.new) result (hunks_said (plain_options options.now) [] (rows_of side (hunks_of text.now hunks.now) verdicts.now)) }
+    ensures writes { Writes (O.view out.old) (O.view out.new) result (hunks_said (plain_options options.now) end [] (rows_of side (hunks_of text.now hunks.now) verdicts.now)) }
     ensures rest { O.same_rest out.old out.new }
 {
     let mut net = 0;
     for i in 0..hunks.len() {
         let hunk = &hunks[i];
         let verdict = verdicts[i];
-        say_hunk(options, i as u32 + 1, net, hunk, side, verdict, out)?;
+        say_hunk(
+            options,
+            i as u32 + 1,
+            net,
+            text,
+            hunk,
+            side,
+            verdict,
+            end,
+            out,
+        )?;
         net += placed_growth(hunk, verdict, side);
     }
     Ok(())
@@ -107,23 +121,28 @@ fn say_hunk<O: Sink>(
     options: &Options,
     number: u32,
     net: i64,
+    text: &[u8],
     hunk: &Hunk,
     side: Side,
     verdict: Verdict,
+    end: Option<bool>,
     out: &mut O,
 ) -> Result<(), Failed>
-    requires small { length hunk.now.body.items < 2 ^ 32 }
+    requires lawful { IsLawful text.now hunk.now }
     requires low { negsuc (2 ^ 40) ≤ℤ net }
     requires high { net ≤ℤ pos (2 ^ 40) }
     requires tried { IsTried verdict }
-    ensures writes { (text : List ℕ) → Writes (O.view out.old) (O.view out.new) result (hunk_said (plain_options options.now) number net (turned side (hunk_of text hunk.now)) verdict) }
+    ensures writes { Writes (O.view out.old) (O.view out.new) result (hunk_said (plain_options options.now) end number net (turned side (hunk_of text.now hunk.now)) verdict) }
     ensures rest { O.same_rest out.old out.new }
 {
     match verdict {
         Verdict::At { line, fuzz, offset } => {
             say_placed(options, number, line as i64 + net, fuzz, offset, out)
         }
-        Verdict::Nowhere => say_failed(options, number, hunk.base(side) as i64 + net, out),
+        Verdict::Nowhere => {
+            let apart = ends_otherwise(end, text, hunk, side);
+            say_failed(options, number, hunk.base(side) as i64 + net, apart, out)
+        }
         Verdict::Untried | Verdict::Ignored => Ok(()),
     }
 }
@@ -142,7 +161,9 @@ fn say_script<O: Sink>(
         Some(Verdict::At { line, fuzz, offset }) => {
             say_placed(options, 1, *line as i64, *fuzz, *offset, out)
         }
-        Some(Verdict::Nowhere) => say_failed(options, 1, i64::from(first_address(script)), out),
+        Some(Verdict::Nowhere) => {
+            say_failed(options, 1, i64::from(first_address(script)), false, out)
+        }
         _ => Ok(()),
     }
 }

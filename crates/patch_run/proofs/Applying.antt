@@ -17,6 +17,7 @@ use Rattle.hunk_apply.specs.declared.Session.{Session}
 use Rattle.replace_file.specs.declared.temp.Temp.{Temp}
 use Rattle.patch_task.specs.declared.fault.RunFault.{RunFault}
 use Rattle.patch_task.specs.declared.fault.RunFault.TheVariants.{Tree}
+use Rattle.patch_task.specs.LineEnds.{first_end}
 use Rattle.patch_task.specs.Outputs.{IsSession}
 use Rattle.patch_start.specs.Trying.{IsBegun}
 use Rattle.file_patch.specs.declared.derived.Target.{Target}
@@ -147,21 +148,21 @@ part_unmade {u = u} es text quiet said = record {
   said = said;
 }
 
-module _ (t : PlainTurn) (s w : Target) (session : Session) (side : Side) (vs : List Verdict) (u z : TreeView) (c d : SinkView) where
+module _ (t : PlainTurn) (s w : Target) (session : Session) (side : Side) (vs : List Verdict) (end : Option Bool) (u z : TreeView) (c d : SinkView) where
   -- what was said of an outcome
   abbrev pub Says : (List ℕ → Type 0) → Type 0
-  Says P = (x : Tried) → x.side ≡ side → x.verdicts ≡ vs → IsSession session x.verdicts x.text → P (tried_said t w x)
+  Says P = (x : Tried) → x.side ≡ side → x.verdicts ≡ vs → IsSession session x.verdicts x.text → x.end ≡ end → P (tried_said t w x)
 
-  pub tell_fails : (f : Files) (x : Tried) → IsQuiet u → Says (λ text. ReceivesPart c d text) → IsOutcome t.options.dry_run u session w.temp side vs x → IsPartOf u u c d (effects_of t f s w x) (tried_said t w x)
-  tell_fails f x quiet says is = part_unmade (effects_of t f s w x) (tried_said t w x) quiet (says x is.side is.verdicts is.counts)
+  pub tell_fails : (f : Files) (x : Tried) → IsQuiet u → Says (λ text. ReceivesPart c d text) → IsOutcome t.options.dry_run u session w.temp side vs end x → IsPartOf u u c d (effects_of t f s w x) (tried_said t w x)
+  tell_fails f x quiet says is = part_unmade (effects_of t f s w x) (tried_said t w x) quiet (says x is.side is.verdicts is.counts is.end)
 
-  pub tell_dry : (f : Files) (x : Tried) → IsBegun t.options.dry_run None w.temp → IsQuiet u → u.told ≡ Some f → Says (λ text. Receives c d text) → IsOutcome t.options.dry_run u session w.temp side vs x → IsMadeWhole t f s w x (record { wrote = false; effects = 0 }) u u c d
+  pub tell_dry : (f : Files) (x : Tried) → IsBegun t.options.dry_run None w.temp → IsQuiet u → u.told ≡ Some f → Says (λ text. Receives c d text) → IsOutcome t.options.dry_run u session w.temp side vs end x → IsMadeWhole t f s w x (record { wrote = false; effects = 0 }) u u c d
   tell_dry f x begun quiet told says is =
       let dry = is_dry t.options.dry_run w.temp begun in
       let none = effects-dry t f s w x dry in
       record {
         made = subst (λ (l : List Effect). HasMade u u l) (sym none) (made_none u quiet);
-        said = says x is.side is.verdicts is.counts;
+        said = says x is.side is.verdicts is.counts is.end;
         exact = λ g now q ne. ap (λ (h : Files). get h q) (same_Some _ _ (sym now ∙ told)) ∙ ap (λ (l : List Effect). get (after_all l f) q) (sym none);
         gone = λ wet. absurd (false≢true (sym wet ∙ dry));
         same = λ yes. told;
@@ -170,9 +171,9 @@ module _ (t : PlainTurn) (s w : Target) (session : Session) (side : Side) (vs : 
       }
 
   pub tell_ordered : Says (λ text. Receives c d text) → (r : Result Made RunFault) → IfErr r (λ e. (e ≡ Tree) × Rises u z)
-      → IfErr r (λ e. (x : Tried) → IsOutcome t.options.dry_run u session w.temp side vs x → IsOrdered e u z c d (tried_said t w x))
+      → IfErr r (λ e. (x : Tried) → IsOutcome t.options.dry_run u session w.temp side vs end x → IsOrdered e u z c d (tried_said t w x))
   tell_ordered says (Ok made) cause = tt
-  tell_ordered says (Err e) cause = λ x is. inr (cause.0, says x is.side is.verdicts is.counts)
+  tell_ordered says (Err e) cause = λ x is. inr (cause.0, says x is.side is.verdicts is.counts is.end)
 
   module _ (temp : Temp) (begun : IsBegun t.options.dry_run (Some temp) w.temp) (says : Says (λ text. Receives c d text)) where
     -- what holds of each outcome that the session tells of
@@ -185,14 +186,14 @@ module _ (t : PlainTurn) (s w : Target) (session : Session) (side : Side) (vs : 
     pub tell_made : (r : Result Made RunFault) → Made_by r → OnOk r (IsGone z w.temp)
         → IfOk r (λ made. (f : Files) (x : Tried) → u.told ≡ Some f → x.side ≡ side → x.verdicts ≡ vs → IsSession session x.verdicts x.text → made.wrote ≡ wrote t f w x)
         → IfOk r (λ made. (f : Files) (x : Tried) → u.told ≡ Some f → x.side ≡ side → x.verdicts ≡ vs → IsSession session x.verdicts x.text → made.effects ≡ length (effects_of t f s w x))
-        → IfOk r (λ made. (f : Files) (x : Tried) → u.told ≡ Some f → IsOutcome t.options.dry_run u session w.temp side vs x → IsMadeWhole t f s w x made u z c d)
+        → IfOk r (λ made. (f : Files) (x : Tried) → u.told ≡ Some f → IsOutcome t.options.dry_run u session w.temp side vs end x → IsMadeWhole t f s w x made u z c d)
     tell_made (Err e) makes gone wrote count = tt
     tell_made (Ok made) makes gone wrote count = λ f x told is.
         let wet = is_wet t.options.dry_run w.temp temp begun in
         let did = (makes x is.side is.verdicts is.counts (is.holds wet)).ok f told in
         record {
           made = did.made;
-          said = says x is.side is.verdicts is.counts;
+          said = says x is.side is.verdicts is.counts is.end;
           exact = λ g now q ne. did.exact f g told now q ne;
           gone = λ yes. gone;
           same = λ dry. absurd (false≢true (sym wet ∙ dry));
@@ -200,12 +201,12 @@ module _ (t : PlainTurn) (s w : Target) (session : Session) (side : Side) (vs : 
           effects = count f x told is.side is.verdicts is.counts;
         }
 
-    pub tell_breaks : (r : Result Made RunFault) → Made_by r → OnErr r ((f : Files) (x : Tried) → u.told ≡ Some f → IsOutcome t.options.dry_run u session w.temp side vs x → IsPartOf u z c d (effects_of t f s w x) (tried_said t w x))
+    pub tell_breaks : (r : Result Made RunFault) → Made_by r → OnErr r ((f : Files) (x : Tried) → u.told ≡ Some f → IsOutcome t.options.dry_run u session w.temp side vs end x → IsPartOf u z c d (effects_of t f s w x) (tried_said t w x))
     tell_breaks (Ok made) makes = tt
     tell_breaks (Err e) makes = λ f x told is.
         let wet = is_wet t.options.dry_run w.temp temp begun in
         let part = (makes x is.side is.verdicts is.counts (is.holds wet)).err f told in
-        record { tells = part.tells; leaves = part.leaves; said = received_part c d (tried_said t w x) (says x is.side is.verdicts is.counts) }
+        record { tells = part.tells; leaves = part.leaves; said = received_part c d (tried_said t w x) (says x is.side is.verdicts is.counts is.end) }
 
 -- ---- nothing is done before all is said
 
@@ -230,13 +231,13 @@ part_worked {u = u} {v = v} temp c es text is works =
       said = part_longer c c [] text (received_part c c [] (received_none c));
     }
 
-module _ (t : PlainTurn) (f : Files) (s w : Target) (side : Side) (ls : List (List ℕ)) (session : Session) (vs : List Verdict) (source : IsNamed s) (named : IsNamed w) {u v : TreeView} (works : WorksOn u v w.temp) (told : u.told ≡ Some f)
-    (verdicts : vs ≡ (tried t side ls).verdicts) (counts : IsSession session vs (tried t side ls).text) (holds : t.options.dry_run ≡ false → Holds v w.temp (tried t side ls).output) where
-  tried_outcome : IsOutcome t.options.dry_run v session w.temp side vs (tried t side ls)
-  tried_outcome = record { side = refl; verdicts = sym verdicts; counts = subst (λ (l : List Verdict). IsSession session l (tried t side ls).text) verdicts counts; holds = holds }
+module _ (t : PlainTurn) (f : Files) (s w : Target) (side : Side) (ls : List (List ℕ)) (session : Session) (vs : List Verdict) (end : Option Bool) (source : IsNamed s) (named : IsNamed w) {u v : TreeView} (works : WorksOn u v w.temp) (told : u.told ≡ Some f)
+    (verdicts : vs ≡ (tried t side ls).verdicts) (counts : IsSession session vs (tried t side ls).text) (ends : end ≡ first_end ls) (holds : t.options.dry_run ≡ false → Holds v w.temp (tried t side ls).output) where
+  tried_outcome : IsOutcome t.options.dry_run v session w.temp side vs end (tried t side ls)
+  tried_outcome = record { side = refl; verdicts = sym verdicts; counts = subst (λ (l : List Verdict). IsSession session l (tried t side ls).text) verdicts counts; end = sym ends; holds = holds }
 
   pub tried_breaks : {z : TreeView} {c d : SinkView} → Passes v z
-      → ((g : Files) (x : Tried) → v.told ≡ Some g → IsOutcome t.options.dry_run v session w.temp side vs x → IsPartOf v z c d (effects_of t g s w x) (tried_said t w x))
+      → ((g : Files) (x : Tried) → v.told ≡ Some g → IsOutcome t.options.dry_run v session w.temp side vs end x → IsPartOf v z c d (effects_of t g s w x) (tried_said t w x))
       → IsPartOf u z c d (effects_of t f s w (tried t side ls)) (tried_said t w (tried t side ls))
   tried_breaks passes broken =
       let x = tried t side ls in
@@ -244,12 +245,12 @@ module _ (t : PlainTurn) (f : Files) (s w : Target) (side : Side) (ls : List (Li
       part_tried t f mid.0 s w x source named works told mid.1 (tried_said t w x) passes (broken mid.0 x mid.1 tried_outcome)
 
   pub tried_ordered : {z : TreeView} (c d : SinkView) (e : RunFault) → Passes v z
-      → ((x : Tried) → IsOutcome t.options.dry_run v session w.temp side vs x → IsOrdered e v z c d (tried_said t w x))
+      → ((x : Tried) → IsOutcome t.options.dry_run v session w.temp side vs end x → IsOrdered e v z c d (tried_said t w x))
       → IsOrdered e u z c d (tried_said t w (tried t side ls))
   tried_ordered c d e passes ordered = ordered_after c d e (tried_said t w (tried t side ls)) (works_made w.temp named.temps.own works) passes (ordered (tried t side ls) tried_outcome)
 
   pub tried_done : {z : TreeView} {c d : SinkView} (place : ℕ) (made : Made) (done : Done) → ((g : Files) → v.told ≡ Some g → t.options.dry_run ≡ true → g ≡ f)
-      → ((g : Files) (x : Tried) → v.told ≡ Some g → IsOutcome t.options.dry_run v session w.temp side vs x → IsMadeWhole t g s w x made v z c d)
+      → ((g : Files) (x : Tried) → v.told ≡ Some g → IsOutcome t.options.dry_run v session w.temp side vs end x → IsMadeWhole t g s w x made v z c d)
       → done.row ≡ record { side = side; target = Some place; wrote = made.wrote }
       → ((x : Tried) → x.side ≡ side → IsSession session x.verdicts x.text → done.is_bad ≡ ((some_failed x.verdicts || is_kept t x) || fails_first t))
       → done.effects ≡ made.effects

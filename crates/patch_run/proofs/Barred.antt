@@ -16,12 +16,22 @@ use Rattle.patch_task.specs.declared.fault.RunFault.{RunFault}
 use Rattle.patch_task.specs.declared.fault.RunFault.TheVariants.{Tree, Write, Scratch, LongLine, FileTooLong, Disagree, Memory}
 use Rattle.patch_task.specs.Making.{IsGone, IsTidy, TidyAfter}
 use Rattle.patch_task.proofs.Tidy.{tidy_both, untouched_tidy, attempt_tidy}
-use Rattle.patch_start.specs.Trying.{IsBegun}
+use Rattle.patch_start.specs.Trying.{IsBegun, HasTryCause}
 use Rattle.patch_run.specs.declared.one_patch.Done.{Done}
 use Rattle.patch_run.specs.OnePatch.{PlainTurn}
 use Rattle.patch_run.specs.Doing.{Stays, QuietAfter, IsDeviceFault, HasEndCause, IsUntold, IsRefused}
 use Rattle.patch_run.proofs.Applying.{begun_name}
 use Rattle.patch_run.proofs.EndCause.{end_failed, end_device, end_run, device_quiet, kept_plan}
+
+-- a fault behind other calls of the plan
+pub cause_behind : (e : RunFault) (u w : TreeView) (a b c : Seen) → Keeps a b → HasTryCause e u w b c → HasTryCause e u w a c
+cause_behind Tree u w a b c keeps h = h
+cause_behind Write u w a b c keeps h = h
+cause_behind Scratch u w a b c keeps h = λ small. omega (arith, h small, keeps.faults)
+cause_behind (LongLine line length) u w a b c keeps h = h
+cause_behind (FileTooLong length) u w a b c keeps h = h
+cause_behind (Disagree want got) u w a b c keeps h = (h.0, sym keeps.told ∙ h.1)
+cause_behind Memory u w a b c keeps h = h
 
 -- calls on a temporary, and then calls that leave the tree as it is
 pub works_untouched : {u v w : TreeView} {temp : List ℕ} → WorksOn u v temp → IsUntouched v w → WorksOn u w temp

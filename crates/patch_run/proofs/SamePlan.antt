@@ -1,5 +1,5 @@
 -- With another plan a run over file patches does the same, as no definition on the way reads the plan.
-use Rattle.std.proofs.Common.{◌≡◌, ℕ, List, [], ◌∷◌, ◌++◌, Option, refl, arith}
+use Rattle.std.proofs.Common.{◌≡◌, ℕ, List, [], ◌∷◌, ◌++◌, Bool, Option, refl, arith}
 use Rattle.std.specs.Prelude.{ℤ}
 use Rattle.outside.specs.Files.{Files}
 use Rattle.hunk_core.specs.declared.Side.{Side}
@@ -32,17 +32,17 @@ module _ (plan : PlanKind) where
   unfolding start
   start_same t f = grind (arith, reversed_same t.options, changes_same t.options t.item.skipped)
 
-  hunk_same : (o : PlainOptions) (number : ℕ) (moved : ℤ) (h : PlainHunk) (v : Verdict) → hunk_said (with_plan plan o) number moved h v ≡ hunk_said o number moved h v
-  hunk_same o number moved h v = grind arith
+  hunk_same : (o : PlainOptions) (end : Option Bool) (number : ℕ) (moved : ℤ) (h : PlainHunk) (v : Verdict) → hunk_said (with_plan plan o) end number moved h v ≡ hunk_said o end number moved h v
+  hunk_same o end number moved h v = grind arith
 
-  hunks_same : (o : PlainOptions) (before rows : List (PlainHunk × Verdict)) → hunks_said (with_plan plan o) before rows ≡ hunks_said o before rows
+  hunks_same : (o : PlainOptions) (end : Option Bool) (before rows : List (PlainHunk × Verdict)) → hunks_said (with_plan plan o) end before rows ≡ hunks_said o end before rows
   unfolding hunks_said
-  hunks_same o before [] = refl
-  hunks_same o before (row ∷ rows) = rw (hunk_same o, hunks_same o (before ++ row ∷ []) rows) refl
+  hunks_same o end before [] = refl
+  hunks_same o end before (row ∷ rows) = rw (hunk_same o end, hunks_same o end (before ++ row ∷ []) rows) refl
 
   tried_same : (t : PlainTurn) (w : Target) (x : Tried) → tried_said (replanned t) w x ≡ tried_said t w x
   unfolding tried_said
-  tried_same t w x = grind (arith, hunks_same t.options [])
+  tried_same t w x = grind (arith, hunks_same t.options x.end [])
 
   ending_same : (t : PlainTurn) (f : Files) → ending (replanned t) f ≡ ending t f
   unfolding effects_of wrote ending

@@ -203,6 +203,7 @@ fn try_at<P: LineStore, T: Tree, O: Sink>(
     let target = written(&turn.task, place);
     let trial = try_free(turn, source, target, side, verdicts, plan, tree)?;
     let attempt = trial.attempt;
+    let end = trial.end;
     if let Some(barrier) = trial.barrier {
         let temp = attempt.temp;
         return refuse_tried(
@@ -210,7 +211,9 @@ fn try_at<P: LineStore, T: Tree, O: Sink>(
         );
     }
     let session = attempt.session;
-    let made = tell_and_make(turn, source, target, side, attempt, verdicts, tree, out)?;
+    let made = tell_and_make(
+        turn, source, target, side, attempt, end, verdicts, tree, out,
+    )?;
     Ok(done_of(turn, place, side, &session, made))
 }
 
@@ -221,6 +224,7 @@ fn tell_and_make<T: Tree, O: Sink>(
     target: &Target,
     side: Side,
     attempt: Attempt<'_>,
+    end: Option<bool>,
     verdicts: &[Verdict],
     tree: &mut T,
     out: &mut O,
@@ -239,17 +243,17 @@ fn tell_and_make<T: Tree, O: Sink>(
     ensures quiet { OnOk result (IsQuiet (T.view tree.new)) }
     ensures rest { O.same_rest out.old out.new }
     ensures dry { turn.now.task.options.now.dry_run ≡ true → IsUntouched (T.view tree.old) (T.view tree.new) }
-    ensures whole { IfOk result (λ made. (f : Files) (x : Tried) → (T.view tree.old).told ≡ Some f → IsOutcome turn.now.task.options.now.dry_run (T.view tree.old) attempt.entry.session target.now.temp side verdicts.now x
+    ensures whole { IfOk result (λ made. (f : Files) (x : Tried) → (T.view tree.old).told ≡ Some f → IsOutcome turn.now.task.options.now.dry_run (T.view tree.old) attempt.entry.session target.now.temp side verdicts.now end x
         → IsMadeWhole (plain_turn turn.now) f source.now target.now x made (T.view tree.old) (T.view tree.new) (O.view out.old) (O.view out.new)) }
-    ensures broken { OnErr result ((f : Files) (x : Tried) → (T.view tree.old).told ≡ Some f → IsOutcome turn.now.task.options.now.dry_run (T.view tree.old) attempt.entry.session target.now.temp side verdicts.now x
+    ensures broken { OnErr result ((f : Files) (x : Tried) → (T.view tree.old).told ≡ Some f → IsOutcome turn.now.task.options.now.dry_run (T.view tree.old) attempt.entry.session target.now.temp side verdicts.now end x
         → IsPartOf (T.view tree.old) (T.view tree.new) (O.view out.old) (O.view out.new) (effects_of (plain_turn turn.now) f source.now target.now x) (tried_said (plain_turn turn.now) target.now x)) }
-    ensures order { IfErr result (λ e. (x : Tried) → IsOutcome turn.now.task.options.now.dry_run (T.view tree.old) attempt.entry.session target.now.temp side verdicts.now x
+    ensures order { IfErr result (λ e. (x : Tried) → IsOutcome turn.now.task.options.now.dry_run (T.view tree.old) attempt.entry.session target.now.temp side verdicts.now end x
         → IsOrdered e (T.view tree.old) (T.view tree.new) (O.view out.old) (O.view out.new) (tried_said (plain_turn turn.now) target.now x)) }
     ensures few { IfOk result (λ made. made.effects ≤ 5) }
     ensures tidy { OnOk result (IsTidy (T.view tree.old) (T.view tree.new)) }
     ensures gone { OnOk result (turn.now.task.options.now.dry_run ≡ false → IsGone (T.view tree.new) target.now.temp) }
 {
-    tell(turn, target, side, &attempt.session, verdicts, out)?;
+    tell(turn, target, side, &attempt.session, verdicts, end, out)?;
     match attempt.temp {
         Some(temp) => make_effects(
             turn,

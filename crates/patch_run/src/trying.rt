@@ -13,6 +13,7 @@ ghost use Rattle.hunk_apply.specs.Session.{IsTried};
 ghost use Rattle.file_patch.specs.PlainPatch.{row_count};
 ghost use Rattle.patch_task.specs.Outputs.{tried, IsSession};
 ghost use Rattle.patch_task.specs.Making.{GoesQuietly, IsGone, IsTidy, UnlessFailed};
+ghost use Rattle.patch_task.specs.LineEnds.{first_end};
 ghost use Rattle.patch_task.specs.Named.{IsNamed};
 ghost use Rattle.patch_task.specs.TaskView.{plain_task};
 ghost use Rattle.patch_start.specs.Trying.{IsBegun, HasTryCause};
@@ -27,7 +28,7 @@ use line_store::LineStore;
 use outside::{Failed, Sink, Tree};
 use patch_outcome::{Turn, is_mismatch_kept, is_rejected};
 use patch_start::{
-    Attempt, Barrier, obstacle_to_backup, obstacle_to_rejects, say_barrier, try_hunks,
+    Attempt, Barrier, first_end, obstacle_to_backup, obstacle_to_rejects, say_barrier, try_hunks,
 };
 use patch_task::{RunFault, keep_old, renames};
 use replace_file::Temp;
@@ -36,6 +37,8 @@ use replace_file::Temp;
 #[derive(Drop)]
 pub struct Trial<'n> {
     pub attempt: Attempt<'n>,
+    /// Whether the first line of the file ends in a carriage return and a line feed, if there is one.
+    pub end: Option<bool>,
     pub barrier: Option<Barrier<'n>>,
 }
 
@@ -61,18 +64,27 @@ pub fn try_free<'n, P: LineStore, T: Tree>(
     ensures there { OnOk result (turn.now.task.options.now.dry_run ≡ false → IsThere (T.view tree.new) target.now.temp) }
     ensures holds { OnOk result ((lines : List (List ℕ)) → (P.seen plan.old).told ≡ Some lines → turn.now.task.options.now.dry_run ≡ false → Holds (T.view tree.new) target.now.temp (tried (plain_task turn.now.task) side lines).output) }
     ensures session { IfOk result (λ trial. (lines : List (List ℕ)) → (P.seen plan.old).told ≡ Some lines → IsSession trial.attempt.session verdicts.new (tried (plain_task turn.now.task) side lines).text) }
+    ensures end { IfOk result (λ trial. (lines : List (List ℕ)) → (P.seen plan.old).told ≡ Some lines → trial.end ≡ first_end lines) }
     ensures verdicts { OnOk result ((lines : List (List ℕ)) → (P.seen plan.old).told ≡ Some lines → verdicts.new ≡ (tried (plain_task turn.now.task) side lines).verdicts) }
     ensures tried { OnOk result (All IsTried verdicts.new) }
     ensures rows { length verdicts.new ≡ length verdicts.old }
     ensures tidy { IfErr result (λ e. UnlessFailed e (IsTidy (T.view tree.old) (T.view tree.new))) }
     ensures free { IfOk result (λ trial. (f : Files) → (T.view tree.old).told ≡ Some f → trial.barrier ≡ None) }
 {
+    let end = match first_end(plan) {
+        Ok(end) => end,
+        Err(fault) => return Err(fault),
+    };
     let attempt = match try_hunks(&turn.task, &target.temp, side, verdicts, plan, tree) {
         Ok(attempt) => attempt,
         Err(fault) => return Err(fault),
     };
     match obstacle_behind(turn, source, target, &attempt.session, tree) {
-        Ok(barrier) => Ok(Trial { attempt, barrier }),
+        Ok(barrier) => Ok(Trial {
+            attempt,
+            end,
+            barrier,
+        }),
         Err(_) => Err(RunFault::Tree),
     }
 }

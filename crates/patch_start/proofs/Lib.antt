@@ -4,5 +4,5 @@ mod StartTaken
 mod Deciding
 pub mod Places
 mod Parting
-mod Trying
+pub mod Trying
 mod Barring

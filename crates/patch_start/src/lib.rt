@@ -5,6 +5,7 @@
 
 mod choices;
 mod discard;
+mod ends;
 mod fill;
 mod fitting;
 mod indexed;
@@ -16,6 +17,7 @@ mod starting;
 mod weighing;
 mod word;
 
+pub use ends::first_end;
 pub use fill::{Attempt, try_hunks};
 pub use obstacles::{Barrier, obstacle_to_backup, obstacle_to_rejects};
 pub use refusing::say_barrier;

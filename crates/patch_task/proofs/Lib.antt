@@ -1,4 +1,5 @@
 mod Getting
+mod LineEnds
 pub mod EffectLists
 pub mod Filling
 pub mod Making

@@ -4,6 +4,7 @@ pub mod Times
 pub mod Turns
 pub mod Ready
 pub mod TaskView
+pub mod LineEnds
 pub mod Outputs
 pub mod Faults
 pub mod Making

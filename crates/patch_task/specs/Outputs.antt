@@ -12,16 +12,18 @@ use Rattle.ifdef_out.specs.Placed.{change_edits}
 use Rattle.ifdef_out.specs.Tagged.{ifdef_text}
 use Rattle.patch_task.specs.Asking.{is_bare}
 use Rattle.patch_task.specs.Turns.{PlainTurn}
+use Rattle.patch_task.specs.LineEnds.{first_end}
 use Rattle.std.specs.List.{list_any}
 use Rattle.hunk_apply.specs.Written.{is_nothing}
 use Rattle.hunk_apply.specs.declared.Session.{Session}
 
--- the new text of the file, and what is written of it
+-- the new text of the file, what is written of it, and how its first old line ends
 pub record Tried : Type 0 where
   pub side : Side
   pub verdicts : List Verdict
   pub text : List ℕ
   pub output : List ℕ
+  pub end : Option Bool
 
 abbrev pub has_lines : List (List ℕ) → Bool
 has_lines ls = nat_lt 0 (length ls)
@@ -57,7 +59,7 @@ output_on None t side ls = text_of t side ls
 output_on (Some define) t side ls = if is_barred t.options side t.item.patch ls then text_of t side ls else parted_output t side ls define
 
 abbrev pub tried : PlainTurn → Side → List (List ℕ) → Tried
-tried t side ls = record { side = side; verdicts = verdicts_on t side ls; text = text_of t side ls; output = output_on t.options.define t side ls }
+tried t side ls = record { side = side; verdicts = verdicts_on t side ls; text = text_of t side ls; output = output_on t.options.define t side ls; end = first_end ls }
 
 abbrev pub failed : List Verdict → ℕ
 failed vs = count_by is_failed vs

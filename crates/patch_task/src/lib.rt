@@ -4,6 +4,7 @@
 #![tactic(auto)]
 
 mod asking;
+mod ends;
 mod fault;
 mod kinds;
 mod moved;
@@ -14,6 +15,7 @@ mod task;
 mod times;
 
 pub use asking::{acts_deleted, acts_new, is_bare, moves_at, renames, source_at, takes_files};
+pub use ends::{ends_otherwise, is_returned};
 pub use fault::RunFault;
 pub use kinds::{Manner, Mode, Subject, is_link, mode_asked, subject_of};
 pub use moved::write_moved;

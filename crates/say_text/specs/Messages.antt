@@ -110,9 +110,13 @@ is_told is_verbose fuzz offset = is_verbose || not ((fuzz == 0) && is_int_zero o
 abbrev pub placed_text : Bool → ℕ → ℤ → ℕ → ℤ → List ℕ
 placed_text is_verbose number at fuzz offset = if is_told is_verbose fuzz offset then placed_line number at fuzz offset else []
 
--- a hunk has no place
-abbrev pub failed_line : ℕ → ℤ → List ℕ
-failed_line number at = hunk_text number (codes " FAILED at ") at ++ codes ".\n"
+-- a hunk has no place, and where its lines end otherwise than those of the file, that is told
+abbrev pub failed_end : Bool → List ℕ
+failed_end true = codes " (different line endings).\n"
+failed_end false = codes ".\n"
+
+abbrev pub failed_line : ℕ → ℤ → Bool → List ℕ
+failed_line number at ends_otherwise = hunk_text number (codes " FAILED at ") at ++ failed_end ends_otherwise
 
 -- a file that was to be deleted is kept
 abbrev pub not_deleting_line : List ℕ → List ℕ

@@ -37,20 +37,22 @@ fn is_told(options: &Options, fuzz: u32, offset: i64) -> bool
     !options.silent && (options.verbose || !(fuzz == 0 && offset == 0))
 }
 
-/// Says that a hunk has no place, and at which line it was to stand. Nothing is written with `-s`.
+/// Says that a hunk has no place, at which line it was to stand, and whether its lines end otherwise than those of the file. Nothing
+/// is written with `-s`.
 pub fn say_failed<O: Sink>(
     options: &Options,
     number: u32,
     at: i64,
+    ends_otherwise: bool,
     out: &mut O,
 ) -> Result<(), Failed>
-    ensures writes { Writes (O.view out.old) (O.view out.new) result (silenced (plain_options options.now) (failed_line number at)) }
+    ensures writes { Writes (O.view out.old) (O.view out.new) result (silenced (plain_options options.now) (failed_line number at ends_otherwise)) }
     ensures rest { O.same_rest out.old out.new }
 {
     if options.silent {
         return Ok(());
     }
-    let line = failed_line(number, at);
+    let line = failed_line(number, at, ends_otherwise);
     put_all(out, line.as_slice())
 }
 

@@ -2,7 +2,7 @@
 
 ghost use Rattle.std.specs.Prelude.{◌≡◌, ◌+◌, ◌≤◌, ◌++◌, length, codes};
 ghost use Rattle.num_text.specs.Numbers.{decimal};
-ghost use Rattle.say_text.specs.Messages.{signed, fuzz_part, offset_part, line_word, hunk_text, placed_line, failed_line, no_file_lines, skipping_line, hunk_word, share};
+ghost use Rattle.say_text.specs.Messages.{signed, fuzz_part, offset_part, line_word, hunk_text, placed_line, failed_end, failed_line, no_file_lines, skipping_line, hunk_word, share};
 
 use arrayvec::ArrayVec;
 use hunk_core::add_piece;
@@ -88,12 +88,23 @@ pub fn placed_line(number: u32, at: i64, fuzz: u32, offset: i64) -> Line
     line
 }
 
-pub fn failed_line(number: u32, at: i64) -> Line
-    ensures { result.items ≡ failed_line number at }
+pub fn failed_line(number: u32, at: i64, ends_otherwise: bool) -> Line
+    ensures { result.items ≡ failed_line number at ends_otherwise }
 {
     let mut line = hunk_line(number, b" FAILED at ", at);
-    add_piece(&mut line, b".\n");
+    add_piece(&mut line, failed_end(ends_otherwise));
     line
+}
+
+fn failed_end(ends_otherwise: bool) -> &'static [u8]
+    ensures text { result.now ≡ failed_end ends_otherwise }
+    ensures few { length result.now ≤ 27 }
+{
+    if ends_otherwise {
+        b" (different line endings).\n"
+    } else {
+        b".\n"
+    }
 }
 
 pub fn no_file_lines(number: u64) -> Line

@@ -14,7 +14,7 @@ returns-in-Script g c = record {
   writes = (
       let o = plain_options c.args.turn.now.task.options.now in
       let text = c.args.turn.now.task.set.now.text in
-      let said = λ (change : Change). change_said o c.args.side (change_of text change) c.args.verdicts.now in
+      let said = λ (change : Change). change_said o c.args.end c.args.side (change_of text change) c.args.verdicts.now in
       writes_is c.say_script.result (said c.args.turn.now.task.patch.now.change)
       (c.say_script.ensures.writes text (subst (IsLawfulChange text) c.in-Script.is c.requires.turn.task.fit.lawful.change))
       (ap said (sym c.in-Script.is)));
@@ -27,10 +27,10 @@ returns-in-Hunks g c = record {
   writes = (
       let o = plain_options c.args.turn.now.task.options.now in
       let vs = c.args.verdicts.now in
-      let said = λ (change : Change). change_said o c.args.side (change_of c.args.turn.now.task.set.now.text change) vs in
+      let said = λ (change : Change). change_said o c.args.end c.args.side (change_of c.args.turn.now.task.set.now.text change) vs in
       writes_is c.say_hunks.result (said c.args.turn.now.task.patch.now.change) c.say_hunks.ensures.writes
-      (ap (λ (text : List ℕ). hunks_said o [] (rows_of c.args.side (hunks_of text c.deref.result.now) vs)) c.text.ensures
-      ∙ ap (λ (hs : List Hunk). hunks_said o [] (rows_of c.args.side (hunks_of c.args.turn.now.task.set.now.text hs) vs)) c.deref.ensures.value
+      (ap (λ (text : List ℕ). hunks_said o c.args.end [] (rows_of c.args.side (hunks_of text c.deref.result.now) vs)) c.text.ensures
+      ∙ ap (λ (hs : List Hunk). hunks_said o c.args.end [] (rows_of c.args.side (hunks_of c.args.turn.now.task.set.now.text hs) vs)) c.deref.ensures.value
       ∙ ap said (sym c.in-Hunks.is)));
 }
 

@@ -14,7 +14,7 @@ invariant-loop-i g l =
     let rows = rows_of l.side (hunks_of l.text l.hunks) l.verdicts in
     let o = plain_options l.options in
     record {
-      said : HasSaid g.O.Sink.view g.O.Sink.same_rest l.fn.out l.out (hunks_said o (take l.i rows) (drop l.i rows)) (hunks_said o [] rows);
+      said : HasSaid g.O.Sink.view g.O.Sink.same_rest l.fn.out l.out (hunks_said o l.end (take l.i rows) (drop l.i rows)) (hunks_said o l.end [] rows);
       is : l.net ≡ net (take l.i rows);
       small : sum_by (λ (h : Hunk). length h.body.items) (take l.i l.hunks) < 2 ^ 32;
       high : l.net ≤ℤ pos (sum_by (λ (h : Hunk). length h.body.items) (take l.i l.hunks));

@@ -1,4 +1,4 @@
-use Rattle.std.proofs.Common.{◌≡◌, ◌≤◌, ◌^◌, Some, ap, ◌∙◌, rules, arith, w64, to_z, of_z}
+use Rattle.std.proofs.Common.{◌≡◌, ◌≤◌, ◌^◌, Some, false, ap, ◌∙◌, rules, arith, w64, to_z, of_z}
 use Rattle.std.specs.Prelude.{ℤ, pos, slice_get}
 use Rattle.std.proofs.lemmas.Int.{ints, to_z-of_z}
 use mir.Val.{SFits}
@@ -29,7 +29,7 @@ returns-in-Some-Nowhere g c = record {
       let fits : SFits w64 c.from.result = search rules in
       let line : to_z w64 (of_z w64 c.from.result) ≡ pos address = to_z-of_z w64 c.from.result fits ∙ c.from.ensures ∙ ap pos (c.first_address.ensures text) in
       writes_is c.say_failed.result (script_said o address vs) c.say_failed.ensures.writes
-      (ap (λ (z : ℤ). silenced o (failed_line 1 z)) line ∙ script-by o address vs Nowhere is);
+      (ap (λ (z : ℤ). silenced o (failed_line 1 z false)) line ∙ script-by o address vs Nowhere is);
   rest = c.say_failed.ensures.rest;
 }
 

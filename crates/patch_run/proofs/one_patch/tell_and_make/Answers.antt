@@ -19,17 +19,17 @@ use Rattle.patch_run.proofs.one_patch.tell_and_make.Goals as goal
 pub returns-in-Some : goal.returns-in-Some
 returns-in-Some g c = record {
   whole = (
-      tell_made (plain_turn c.args.turn.now) c.args.source.now c.args.target.now c.args.attempt.session c.args.side c.args.verdicts.now (g.T.Tree.view c.args.tree.now) (g.T.Tree.view c.make_effects.new.tree) (g.O.Sink.view c.args.out.now) (g.O.Sink.view c.tell.new.out)
-      c.in-Some.temp (subst (λ (o : Option Temp). IsBegun c.args.turn.now.task.options.now.dry_run o c.args.target.now.temp) c.in-Some.is c.requires.begun) (λ y side vs counts. (c.in_ok-tell.ensures.writes y side vs counts).received) c.make_effects.result c.make_effects.ensures.makes c.make_effects.ensures.gone c.make_effects.ensures.wrote c.make_effects.ensures.count);
+      tell_made (plain_turn c.args.turn.now) c.args.source.now c.args.target.now c.args.attempt.session c.args.side c.args.verdicts.now c.args.end (g.T.Tree.view c.args.tree.now) (g.T.Tree.view c.make_effects.new.tree) (g.O.Sink.view c.args.out.now) (g.O.Sink.view c.tell.new.out)
+      c.in-Some.temp (subst (λ (o : Option Temp). IsBegun c.args.turn.now.task.options.now.dry_run o c.args.target.now.temp) c.in-Some.is c.requires.begun) (λ y side vs counts end. (c.in_ok-tell.ensures.writes y side vs counts end).received) c.make_effects.result c.make_effects.ensures.makes c.make_effects.ensures.gone c.make_effects.ensures.wrote c.make_effects.ensures.count);
   broken = (
-      tell_breaks (plain_turn c.args.turn.now) c.args.source.now c.args.target.now c.args.attempt.session c.args.side c.args.verdicts.now (g.T.Tree.view c.args.tree.now) (g.T.Tree.view c.make_effects.new.tree) (g.O.Sink.view c.args.out.now) (g.O.Sink.view c.tell.new.out)
-      c.in-Some.temp (subst (λ (o : Option Temp). IsBegun c.args.turn.now.task.options.now.dry_run o c.args.target.now.temp) c.in-Some.is c.requires.begun) (λ y side vs counts. (c.in_ok-tell.ensures.writes y side vs counts).received) c.make_effects.result c.make_effects.ensures.makes);
+      tell_breaks (plain_turn c.args.turn.now) c.args.source.now c.args.target.now c.args.attempt.session c.args.side c.args.verdicts.now c.args.end (g.T.Tree.view c.args.tree.now) (g.T.Tree.view c.make_effects.new.tree) (g.O.Sink.view c.args.out.now) (g.O.Sink.view c.tell.new.out)
+      c.in-Some.temp (subst (λ (o : Option Temp). IsBegun c.args.turn.now.task.options.now.dry_run o c.args.target.now.temp) c.in-Some.is c.requires.begun) (λ y side vs counts end. (c.in_ok-tell.ensures.writes y side vs counts end).received) c.make_effects.result c.make_effects.ensures.makes);
   dry = λ dry.
       let begun = subst (λ (o : Option Temp). IsBegun c.args.turn.now.task.options.now.dry_run o c.args.target.now.temp) c.in-Some.is c.requires.begun in
       absurd (false≢true (sym (is_wet c.args.turn.now.task.options.now.dry_run c.args.target.now.temp c.in-Some.temp begun) ∙ dry));
   order = (
-      tell_ordered (plain_turn c.args.turn.now) c.args.source.now c.args.target.now c.args.attempt.session c.args.side c.args.verdicts.now (g.T.Tree.view c.args.tree.now) (g.T.Tree.view c.make_effects.new.tree) (g.O.Sink.view c.args.out.now) (g.O.Sink.view c.tell.new.out)
-      (λ y side vs counts. (c.in_ok-tell.ensures.writes y side vs counts).received) c.make_effects.result c.make_effects.ensures.goes.cause);
+      tell_ordered (plain_turn c.args.turn.now) c.args.source.now c.args.target.now c.args.attempt.session c.args.side c.args.verdicts.now c.args.end (g.T.Tree.view c.args.tree.now) (g.T.Tree.view c.make_effects.new.tree) (g.O.Sink.view c.args.out.now) (g.O.Sink.view c.tell.new.out)
+      (λ y side vs counts end. (c.in_ok-tell.ensures.writes y side vs counts end).received) c.make_effects.result c.make_effects.ensures.goes.cause);
   rest = c.in_ok-tell.ensures.rest;
   few = c.make_effects.ensures.few;
   tidy = c.make_effects.ensures.tidy;
@@ -50,13 +50,13 @@ returns-in_err-tell g c = record {
   broken = (
       let u = g.T.Tree.view c.args.tree.now in
       on_err c.from_residual.result (λ f x told is.
-      tell_fails (plain_turn c.args.turn.now) c.args.source.now c.args.target.now c.args.attempt.session c.args.side c.args.verdicts.now u u (g.O.Sink.view c.args.out.now) (g.O.Sink.view c.tell.new.out) f x c.requires.quiet
-      (λ y side vs counts. (c.in_err-tell.ensures.writes y side vs counts).failed) is));
+      tell_fails (plain_turn c.args.turn.now) c.args.source.now c.args.target.now c.args.attempt.session c.args.side c.args.verdicts.now c.args.end u u (g.O.Sink.view c.args.out.now) (g.O.Sink.view c.tell.new.out) f x c.requires.quiet
+      (λ y side vs counts end. (c.in_err-tell.ensures.writes y side vs counts end).failed) is));
   dry = λ dry. untouched_none (g.T.Tree.view c.args.tree.now);
   order = (
       let u = g.T.Tree.view c.args.tree.now in
       if_any
-      (λ (e : RunFault). (x : Tried) → IsOutcome c.args.turn.now.task.options.now.dry_run u c.args.attempt.session c.args.target.now.temp c.args.side c.args.verdicts.now x
+      (λ (e : RunFault). (x : Tried) → IsOutcome c.args.turn.now.task.options.now.dry_run u c.args.attempt.session c.args.target.now.temp c.args.side c.args.verdicts.now c.args.end x
       → IsOrdered e u u (g.O.Sink.view c.args.out.now) (g.O.Sink.view c.tell.new.out) (tried_said (plain_turn c.args.turn.now) c.args.target.now x))
       c.from_residual.result (λ e x is. inl (unmade (made_none u c.requires.quiet))));
   rest = c.in_err-tell.ensures.rest;
@@ -89,8 +89,8 @@ returns-in-None g c = record {
   whole = λ f x told is.
       let u = g.T.Tree.view c.args.tree.now in
       let begun : IsBegun c.args.turn.now.task.options.now.dry_run None c.args.target.now.temp = subst (λ (o : Option Temp). IsBegun c.args.turn.now.task.options.now.dry_run o c.args.target.now.temp) c.in-None.is c.requires.begun in
-      tell_dry (plain_turn c.args.turn.now) c.args.source.now c.args.target.now c.args.attempt.session c.args.side c.args.verdicts.now u u (g.O.Sink.view c.args.out.now) (g.O.Sink.view c.tell.new.out) f x begun c.requires.quiet told
-      (λ y side vs counts. (c.in_ok-tell.ensures.writes y side vs counts).received) is;
+      tell_dry (plain_turn c.args.turn.now) c.args.source.now c.args.target.now c.args.attempt.session c.args.side c.args.verdicts.now c.args.end u u (g.O.Sink.view c.args.out.now) (g.O.Sink.view c.tell.new.out) f x begun c.requires.quiet told
+      (λ y side vs counts end. (c.in_ok-tell.ensures.writes y side vs counts end).received) is;
   dry = λ dry. untouched_none (g.T.Tree.view c.args.tree.now);
   tidy = tidy_none (g.T.Tree.view c.args.tree.now);
   gone = λ wet.

@@ -99,7 +99,7 @@ returns-in_err-made g c = record {
       let x = tried t c.args.side ls in
       subst (λ (y : Target). IsPartOf u z d e (effects_of t f y (written t c.args.place) x) (tried_said t (written t c.args.place) x)) c.chosen-source.ensures.target
       (subst (λ (y : Target). IsPartOf u z d e (effects_of t f s y x) (tried_said t y x)) c.written-target.ensures.target
-      (tried_breaks t f s w c.args.side ls c.in_ok-trial.trial.attempt.session c.try_free.new.verdicts c.chosen-source.ensures.named c.written-target.ensures.named tries.works told (tries.verdicts ls plan) (tries.session ls plan) (λ wet. held_behind t.past (plain_task c.args.turn.now.task) c.args.side ls (g.T.Tree.view c.try_free.new.tree) w.temp (tries.holds ls plan wet))
+      (tried_breaks t f s w c.args.side ls c.in_ok-trial.trial.attempt.session c.try_free.new.verdicts c.in_ok-trial.trial.end c.chosen-source.ensures.named c.written-target.ensures.named tries.works told (tries.verdicts ls plan) (tries.session ls plan) (tries.end ls plan) (λ wet. held_behind t.past (plain_task c.args.turn.now.task) c.args.side ls (g.T.Tree.view c.try_free.new.tree) w.temp (tries.holds ls plan wet))
       c.in_err-made.ensures.tree c.in_err-made.ensures.broken))));
   dry = λ dry. untouched_both (c.in_ok-trial.ensures.dry dry) (c.in_err-made.ensures.dry dry);
   order = (
@@ -117,7 +117,7 @@ returns-in_err-made g c = record {
       fault c.from_residual-in_err-made.result c.from_residual-in_err-made.ensures.1 (λ f told plan.
       let ls = lines_in (bytes_of t f c.args.place) in
       subst (λ (y : Target). IsOrdered fault u z d e (tried_said t y (tried t c.args.side ls))) c.written-target.ensures.target
-      (tried_ordered t f s w c.args.side ls c.in_ok-trial.trial.attempt.session c.try_free.new.verdicts c.chosen-source.ensures.named c.written-target.ensures.named tries.works told (tries.verdicts ls plan) (tries.session ls plan) (λ wet. held_behind t.past (plain_task c.args.turn.now.task) c.args.side ls (g.T.Tree.view c.try_free.new.tree) w.temp (tries.holds ls plan wet))
+      (tried_ordered t f s w c.args.side ls c.in_ok-trial.trial.attempt.session c.try_free.new.verdicts c.in_ok-trial.trial.end c.chosen-source.ensures.named c.written-target.ensures.named tries.works told (tries.verdicts ls plan) (tries.session ls plan) (tries.end ls plan) (λ wet. held_behind t.past (plain_task c.args.turn.now.task) c.args.side ls (g.T.Tree.view c.try_free.new.tree) w.temp (tries.holds ls plan wet))
       d e fault c.in_err-made.ensures.tree c.in_err-made.ensures.order)));
   tidy = (
       let u = g.T.Tree.view c.args.tree.now in
@@ -162,7 +162,7 @@ returns g c = record {
       let same : (h : Files) → (g.T.Tree.view c.try_free.new.tree).told ≡ Some h → t.options.dry_run ≡ true → h ≡ f = λ h now dry. same_Some h f (sym now ∙ (tries.dry dry).told ∙ told) in
       subst (λ (y : Target). IsDone u z d e c.done_of.result c.try_free.new.verdicts f (finished t f [] c.args.place (bytes_of t f c.args.place) y (written t c.args.place) x)) c.chosen-source.ensures.target
       (subst (λ (y : Target). IsDone u z d e c.done_of.result c.try_free.new.verdicts f (finished t f [] c.args.place (bytes_of t f c.args.place) s y x)) c.written-target.ensures.target
-      (tried_done t f s w c.args.side ls c.in_ok-trial.trial.attempt.session c.try_free.new.verdicts c.chosen-source.ensures.named c.written-target.ensures.named tries.works told (tries.verdicts ls plan) (tries.session ls plan) (λ wet. held_behind t.past (plain_task c.args.turn.now.task) c.args.side ls (g.T.Tree.view c.try_free.new.tree) w.temp (tries.holds ls plan wet))
+      (tried_done t f s w c.args.side ls c.in_ok-trial.trial.attempt.session c.try_free.new.verdicts c.in_ok-trial.trial.end c.chosen-source.ensures.named c.written-target.ensures.named tries.works told (tries.verdicts ls plan) (tries.session ls plan) (tries.end ls plan) (λ wet. held_behind t.past (plain_task c.args.turn.now.task) c.args.side ls (g.T.Tree.view c.try_free.new.tree) w.temp (tries.holds ls plan wet))
       c.args.place c.in_ok-made.made c.done_of.result same c.in_ok-made.ensures.whole c.done_of.ensures.row c.done_of.ensures.bad c.done_of.ensures.effects));
   dry = λ dry. untouched_both (c.in_ok-trial.ensures.dry dry) (c.in_ok-made.ensures.dry dry);
   tidy = (
