@@ -35,7 +35,7 @@ pub fn first_faults()
 {}
 
 /// The tests of the grammar, in the words of the diffutils manual.
-pub fn grammar_in_words()
+pub fn grammar_laws()
     // 15 asterisks, and behind their line '*** ', blanks if there are any, and a digit.
     ensures opening { (lines : List (List ℕ)) → begins_hunk lines ≡ true
         ↔ ((bytes : List ℕ) × (blanks : List ℕ) × (d : ℕ) × (more : List ℕ) × (rest : List (List ℕ))

@@ -13,7 +13,7 @@ mod showing;
 mod writing;
 
 pub use hunks::read_hunks;
-pub use laws::{first_faults, grammar_in_words};
+pub use laws::{first_faults, grammar_laws};
 pub use opening::at_opening;
 pub use showing::put_shown;
 pub use writing::put_hunk;

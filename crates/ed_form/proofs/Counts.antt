@@ -6,8 +6,8 @@ use Rattle.hunk_core.proofs.ReadSteps.{bind_ok, guard_ok, ok_is}
 use Rattle.line_list.proofs.Choices.{chosen}
 use Rattle.hunk_core.specs.declared.command.Action.{Action}
 use Rattle.hunk_core.specs.declared.command.Action.TheVariants.{Add, Change, Delete}
-use Rattle.ed_form.specs.declared.added.Part.{Part}
-use Rattle.ed_form.specs.declared.added.Part.TheVariants.{Text}
+use Rattle.ed_form.specs.declared.added.TextState.{TextState}
+use Rattle.ed_form.specs.declared.added.TextState.TheVariants.{Text}
 use Rattle.ed_form.specs.declared.command.Heading.{Heading}
 use Rattle.ed_form.specs.Commands.{opening}
 use Rattle.ed_form.specs.PlainEdit.{PlainEdit}
@@ -19,12 +19,12 @@ pub record Counts (number lines : ℕ) (p : Ahead) : Type 0 where
   pub low : number ≤ p.number
   pub same : p.number + length p.rest ≡ number + lines
 
-closed-counts : (opened : ℕ) (part : Part) (before : List (List ℕ)) (number : ℕ) (rest : List (List ℕ)) (x : List (List ℕ) × Ahead) → closed opened part before (ahead number rest) ≡ Ok x → Counts number (length rest) x.1
+closed-counts : (opened : ℕ) (part : TextState) (before : List (List ℕ)) (number : ℕ) (rest : List (List ℕ)) (x : List (List ℕ) × Ahead) → closed opened part before (ahead number rest) ≡ Ok x → Counts number (length rest) x.1
 closed-counts opened part before number rest x h =
     let g = guard_ok (is_open part) (fault opened kinds.EdNoDot) (before, ahead number rest) x h in
     subst (λ (y : List (List ℕ) × Ahead). Counts number (length rest) y.1) g.1 (record { low = omega arith; same = refl })
 
-pub text-counts : (opened : ℕ) (part : Part) (before : List (List ℕ)) (number : ℕ) (rest : List (List ℕ)) (x : List (List ℕ) × Ahead) → text_at opened part before number rest ≡ Ok x → Counts number (length rest) x.1
+pub text-counts : (opened : ℕ) (part : TextState) (before : List (List ℕ)) (number : ℕ) (rest : List (List ℕ)) (x : List (List ℕ) × Ahead) → text_at opened part before number rest ≡ Ok x → Counts number (length rest) x.1
 unfolding text_at
 text-counts opened part before number [] x h = closed-counts opened part before number [] x h
 text-counts opened part before number (line ∷ rest) x h =

@@ -11,8 +11,8 @@ use Rattle.hunk_core.specs.declared.command.Action.TheVariants.{Add, Change, Del
 use Rattle.hunk_core.specs.FirstFault.{AgreeTo}
 use Rattle.hunk_core.proofs.FaultSteps.{failed, err_is, bind_err}
 use Rattle.hunk_core.proofs.Agreeing.{agree_front}
-use Rattle.ed_form.specs.declared.added.Part.{Part}
-use Rattle.ed_form.specs.declared.added.Part.TheVariants.{Text, Ended, Corrected}
+use Rattle.ed_form.specs.declared.added.TextState.{TextState}
+use Rattle.ed_form.specs.declared.added.TextState.TheVariants.{Text, Ended, Corrected}
 use Rattle.ed_form.specs.declared.command.Command.{Command}
 use Rattle.ed_form.specs.declared.command.Heading.{Heading}
 use Rattle.ed_form.specs.Commands.{is_bad_range, heading, is_too_large, placed, from_parts, parts_at, opening}
@@ -60,10 +60,10 @@ pub record Goes {A : Type 0} (f : List (List ℕ) → Result (A × Ahead) Fault)
   pub read : f others ≡ Ok (x.0, ahead x.1.number more)
   pub agree : AgreeTo last x.1.number x.1.rest more
 
-text-none : (opened : ℕ) (part : Part) (before : List (List ℕ)) (number : ℕ) (line : List ℕ) (rest : List (List ℕ)) → is_taken part before line ≡ false → is_open part ≡ false → text_at opened part before number (line ∷ rest) ≡ Ok (before, ahead number (line ∷ rest))
+text-none : (opened : ℕ) (part : TextState) (before : List (List ℕ)) (number : ℕ) (line : List ℕ) (rest : List (List ℕ)) → is_taken part before line ≡ false → is_open part ≡ false → text_at opened part before number (line ∷ rest) ≡ Ok (before, ahead number (line ∷ rest))
 text-none opened part before number line rest none whole = text-stops opened part before number (line ∷ rest) none ∙ rw whole refl
 
-text-goes : (opened : ℕ) (part : Part) (before : List (List ℕ)) (number : ℕ) (rest : List (List ℕ)) (x : List (List ℕ) × Ahead) (last : ℕ) (others : List (List ℕ)) → text_at opened part before number rest ≡ Ok x → x.1.number ≤ last → AgreeTo last number rest others
+text-goes : (opened : ℕ) (part : TextState) (before : List (List ℕ)) (number : ℕ) (rest : List (List ℕ)) (x : List (List ℕ) × Ahead) (last : ℕ) (others : List (List ℕ)) → text_at opened part before number rest ≡ Ok x → x.1.number ≤ last → AgreeTo last number rest others
     → Goes (text_at opened part before number) last rest others x
 unfolding text_at
 text-goes opened part before number [] x last others h le agree =
@@ -99,10 +99,10 @@ text-goes opened part before number (line ∷ rest) x last others h le agree =
     ]
 
 -- the one fault of a text
-closed-err : (opened : ℕ) (part : Part) (before : List (List ℕ)) (p : Ahead) (e : Fault) → closed opened part before p ≡ Err e → (is_open part ≡ true) × (fault opened kinds.EdNoDot ≡ e)
+closed-err : (opened : ℕ) (part : TextState) (before : List (List ℕ)) (p : Ahead) (e : Fault) → closed opened part before p ≡ Err e → (is_open part ≡ true) × (fault opened kinds.EdNoDot ≡ e)
 closed-err opened part before p e h = guard_err (is_open part) (fault opened kinds.EdNoDot) e (before, p) h
 
-text-err : (opened : ℕ) (part : Part) (before : List (List ℕ)) (number : ℕ) (rest : List (List ℕ)) (e : Fault) → text_at opened part before number rest ≡ Err e → fault opened kinds.EdNoDot ≡ e
+text-err : (opened : ℕ) (part : TextState) (before : List (List ℕ)) (number : ℕ) (rest : List (List ℕ)) (e : Fault) → text_at opened part before number rest ≡ Err e → fault opened kinds.EdNoDot ≡ e
 unfolding text_at
 text-err opened part before number [] e h = (closed-err opened part before (ahead number []) e h).1
 text-err opened part before number (line ∷ rest) e h =
@@ -111,12 +111,12 @@ text-err opened part before number (line ∷ rest) e h =
       | inr none ↦ (closed-err opened part before (ahead number (line ∷ rest)) e none.1).1
     ]
 
-open-text : (part : Part) → is_open part ≡ true → part ≡ Text
+open-text : (part : TextState) → is_open part ≡ true → part ≡ Text
 open-text Text e = refl
 open-text Ended e = absurd cc
 open-text Corrected e = absurd cc
 
-open-takes : (part : Part) (before : List (List ℕ)) (line : List ℕ) (A : Type 0) → is_open part ≡ true → is_taken part before line ≡ false → A
+open-takes : (part : TextState) (before : List (List ℕ)) (line : List ℕ) (A : Type 0) → is_open part ≡ true → is_taken part before line ≡ false → A
 open-takes Text before line A e f = absurd cc
 open-takes Ended before line A e f = absurd cc
 open-takes Corrected before line A e f = absurd cc
@@ -127,11 +127,11 @@ run-open opened before number others clear =
     ∙ text-run opened before others number [] clear
     ∙ text-stops opened Text (before ++ others) (number + length others) [] refl
 
-text-endless : (opened : ℕ) (part : Part) (before : List (List ℕ)) (number : ℕ) (rest others : List (List ℕ)) (e : Fault) → text_at opened part before number rest ≡ Err e → HaveNoDot others → text_at opened part before number (rest ++ others) ≡ Err e
+text-endless : (opened : ℕ) (part : TextState) (before : List (List ℕ)) (number : ℕ) (rest others : List (List ℕ)) (e : Fault) → text_at opened part before number rest ≡ Err e → HaveNoDot others → text_at opened part before number (rest ++ others) ≡ Err e
 unfolding text_at
 text-endless opened part before number [] others e h clear =
     let c = closed-err opened part before (ahead number []) e h in
-    ap (λ (q : Part). text_at opened q before number others) (open-text part c.0) ∙ run-open opened before number others clear ∙ ap failed c.1
+    ap (λ (q : TextState). text_at opened q before number others) (open-text part c.0) ∙ run-open opened before number others clear ∙ ap failed c.1
 text-endless opened part before number (line ∷ rest) others e h clear =
     elim (chosen (is_taken part before line) _ _ (Err e) h) [
       | inl taken ↦ text-takes opened part before number line (rest ++ others) taken.0 ∙ text-endless opened (step part before line).0 (step part before line).1 (number + 1) rest others e taken.1 clear
@@ -142,11 +142,11 @@ text-endless opened part before number (line ∷ rest) others e h clear =
 abbrev IsRead : Result (List (List ℕ) × Ahead) Fault → Type 0
 IsRead r = (x : List (List ℕ) × Ahead) × (r ≡ Ok x)
 
-text-ended : (opened : ℕ) (part : Part) (before : List (List ℕ)) (number : ℕ) (rest : List (List ℕ)) (dot : List ℕ) (others : List (List ℕ)) (e : Fault) → text_at opened part before number rest ≡ Err e → is_dot dot ≡ true → begins_substitution others ≡ false → IsRead (text_at opened part before number (rest ++ dot ∷ others))
+text-ended : (opened : ℕ) (part : TextState) (before : List (List ℕ)) (number : ℕ) (rest : List (List ℕ)) (dot : List ℕ) (others : List (List ℕ)) (e : Fault) → text_at opened part before number rest ≡ Err e → is_dot dot ≡ true → begins_substitution others ≡ false → IsRead (text_at opened part before number (rest ++ dot ∷ others))
 unfolding text_at
 text-ended opened part before number [] dot others e h is clean =
     let c = closed-err opened part before (ahead number []) e h in
-    ((before, ahead (number + 1) others), ap (λ (q : Part). text_at opened q before number (dot ∷ others)) (open-text part c.0) ∙ text-dot opened before number dot others is ∙ ended-stops opened before (number + 1) others clean)
+    ((before, ahead (number + 1) others), ap (λ (q : TextState). text_at opened q before number (dot ∷ others)) (open-text part c.0) ∙ text-dot opened before number dot others is ∙ ended-stops opened before (number + 1) others clean)
 text-ended opened part before number (line ∷ rest) dot others e h is clean =
     elim (chosen (is_taken part before line) _ _ (Err e) h) [
       | inl taken ↦ (

@@ -11,8 +11,8 @@ use Rattle.hunk_core.specs.declared.command.Action.{Action}
 use Rattle.hunk_core.specs.declared.command.Action.TheVariants.{Add, Change, Delete}
 use Rattle.hunk_core.specs.Letters.{is_line_end}
 use Rattle.std.proofs.lemmas.Bool.{cases_Bool, and_parts}
-use Rattle.ed_form.specs.declared.added.Part.{Part}
-use Rattle.ed_form.specs.declared.added.Part.TheVariants.{Text, Ended, Corrected}
+use Rattle.ed_form.specs.declared.added.TextState.{TextState}
+use Rattle.ed_form.specs.declared.added.TextState.TheVariants.{Text, Ended, Corrected}
 use Rattle.ed_form.specs.Texts.{is_dot, is_double, is_correction, is_append, is_substitution, ends_double, undoubled, is_open, is_taken, closed, text_at, goes_on}
 use Rattle.ed_form.specs.Scripts.{begins_substitution, added_at}
 use Rattle.ed_form.specs.Grammar.{HaveNoDot, IsEnded, IsCorrected, begins_append, SpellsText, SpellsAdded}
@@ -55,7 +55,7 @@ text-dot opened before number line rest e = text-takes opened Text before number
 -- ---- what was read of a stretch
 
 -- these lines of it were seen, and this is their text
-abbrev pub Seen : Part → List (List ℕ) → List (List ℕ) → Type 0
+abbrev pub Seen : TextState → List (List ℕ) → List (List ℕ) → Type 0
 Seen Text seen text = (seen ≡ text) × HaveNoDot text
 Seen Ended seen text = IsEnded seen text
 Seen Corrected seen text = IsCorrected seen text
@@ -123,7 +123,7 @@ takes-step base seen number line rest x t = record {
 takes-none : (base seen text : List (List ℕ)) (number : ℕ) (rest : List (List ℕ)) (x : List (List ℕ) × Ahead) → SpellsText 0 seen text rest → (base ++ text, ahead number rest) ≡ x → TakesText base seen number rest x
 takes-none base seen text number rest x s e = subst (TakesText base seen number rest) e (record { turns = 0; own = seen; text = text; is = refl; parts = refl; number_of = refl; spelled = s })
 
-pub closed-is : (opened : ℕ) (part : Part) (before : List (List ℕ)) (p : Ahead) (x : List (List ℕ) × Ahead) → closed opened part before p ≡ Ok x → (is_open part ≡ false) × ((before, p) ≡ x)
+pub closed-is : (opened : ℕ) (part : TextState) (before : List (List ℕ)) (p : Ahead) (x : List (List ℕ) × Ahead) → closed opened part before p ≡ Ok x → (is_open part ≡ false) × ((before, p) ≡ x)
 closed-is opened part before p x h = guard_ok (is_open part) (fault opened kinds.EdNoDot) (before, p) x h
 
 corrected-by : (base seen text : List (List ℕ)) (line : List ℕ) → IsEnded seen text → EndsDouble base text → is_correction line ≡ true → (d : EndsDouble base text) → IsCorrected (seen ++ line ∷ []) (d.front ++ d.lone ∷ [])
@@ -154,7 +154,7 @@ further base seen text number line rest x s e t = record {
   spelled = (seen, line, t.own, refl, e, text, t.text, refl, s, t.spelled);
 }
 
-pub text_takes : (opened : ℕ) (part : Part) (base seen text : List (List ℕ)) (number : ℕ) (rest : List (List ℕ)) (x : List (List ℕ) × Ahead) → ends_double base ≡ false → Seen part seen text → text_at opened part (base ++ text) number rest ≡ Ok x → TakesText base seen number rest x
+pub text_takes : (opened : ℕ) (part : TextState) (base seen text : List (List ℕ)) (number : ℕ) (rest : List (List ℕ)) (x : List (List ℕ) × Ahead) → ends_double base ≡ false → Seen part seen text → text_at opened part (base ++ text) number rest ≡ Ok x → TakesText base seen number rest x
 unfolding text_at
 text_takes opened Text base seen text number [] x single s h = absurd cc
 text_takes opened Text base seen text number (line ∷ rest) x single s h =

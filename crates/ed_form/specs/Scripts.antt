@@ -7,7 +7,7 @@ use Rattle.hunk_core.specs.declared.BadKind.TheVariants as kinds
 use Rattle.hunk_core.specs.Reading.{Fault, fault, ◌>>=◌, Ahead, ahead}
 use Rattle.hunk_core.specs.declared.command.Action.{Action}
 use Rattle.hunk_core.specs.declared.command.Action.TheVariants.{Add, Change, Delete}
-use Rattle.ed_form.specs.declared.added.Part.TheVariants.{Text}
+use Rattle.ed_form.specs.declared.added.TextState.TheVariants.{Text}
 use Rattle.ed_form.specs.declared.command.Heading.{Heading}
 use Rattle.ed_form.specs.declared.script.EdScript.{EdScript}
 use Rattle.ed_form.specs.Commands.{opening, begins_script}

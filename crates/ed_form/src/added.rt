@@ -15,7 +15,7 @@ use std::alloc::Global;
 
 /// Where the lines of a text have led.
 #[derive(Clone, Copy)]
-pub enum Part {
+pub enum TextState {
     /// No `.` has ended it yet.
     Text,
     /// Its last line was `.`.
@@ -25,12 +25,12 @@ pub enum Part {
 }
 
 /// Whether no `.` has ended a text.
-fn lacks_end(part: Part) -> bool
+fn lacks_end(part: TextState) -> bool
     ensures { result ≡ is_open part }
 {
     match part {
-        Part::Text => true,
-        Part::Ended | Part::Corrected => false,
+        TextState::Text => true,
+        TextState::Ended | TextState::Corrected => false,
     }
 }
 
@@ -83,19 +83,24 @@ fn correct(text: &[u8], added: &mut Vec<Span>) -> Result<(), FormFault>
 }
 
 /// Whether a line goes on with a text.
-fn takes(text: &[u8], part: Part, added: &[Span], line: &[u8]) -> bool
+fn takes(text: &[u8], part: TextState, added: &[Span], line: &[u8]) -> bool
     requires { All (LiesIn text.now) added.now }
     ensures { result ≡ is_taken part (lines_of text.now added.now) line.now }
 {
     match part {
-        Part::Text => true,
-        Part::Ended => has_double(text, added) && is_line(line, b"s/.//"),
-        Part::Corrected => is_line(line, b"a"),
+        TextState::Text => true,
+        TextState::Ended => has_double(text, added) && is_line(line, b"s/.//"),
+        TextState::Corrected => is_line(line, b"a"),
     }
 }
 
 /// Takes a line, and tells where it leads.
-fn take_line(text: &[u8], part: Part, added: &mut Vec<Span>, span: Span) -> Result<Part, FormFault>
+fn take_line(
+    text: &[u8],
+    part: TextState,
+    added: &mut Vec<Span>,
+    span: Span,
+) -> Result<TextState, FormFault>
     requires short { length text.now < 2 ^ 32 }
     requires lies { All (LiesIn text.now) added.now.items }
     requires span { LiesIn text.now span }
@@ -106,23 +111,23 @@ fn take_line(text: &[u8], part: Part, added: &mut Vec<Span>, span: Span) -> Resu
     ensures exact { IfOk result (λ next. step part (lines_of text.now added.old.items) (bytes_at text.now span) ≡ (next, lines_of text.now added.new.items)) }
 {
     match part {
-        Part::Text => {
+        TextState::Text => {
             if is_line(&text[span.start as usize..span.end as usize], b".") {
-                return Ok(Part::Ended);
+                return Ok(TextState::Ended);
             }
             added.push(span)?;
-            Ok(Part::Text)
+            Ok(TextState::Text)
         }
-        Part::Ended => {
+        TextState::Ended => {
             correct(text, added)?;
-            Ok(Part::Corrected)
+            Ok(TextState::Corrected)
         }
-        Part::Corrected => Ok(Part::Text),
+        TextState::Corrected => Ok(TextState::Text),
     }
 }
 
 /// The place after the line at `at`, if that goes on with a text.
-fn end_of_next(text: &[u8], part: Part, added: &[Span], at: usize) -> Option<usize>
+fn end_of_next(text: &[u8], part: TextState, added: &[Span], at: usize) -> Option<usize>
     requires within { at ≤ length text.now }
     requires lies { All (LiesIn text.now) added.now }
     ensures { MatchOption result (goes_on part (lines_of text.now added.now) (lines (drop at text.now)) ≡ false) (λ end. IsLineAt text.now at end × (is_taken part (lines_of text.now added.now) (slice_range text.now at end) ≡ true)) }
@@ -146,10 +151,10 @@ fn read_text(
     ensures place { IfOk result (λ x. IsPlace text.now x.1 × (place.at ≤ x.1.at)) }
     ensures few { IfOk result (λ x. place.at + vec_len x.0 ≤ x.1.at) }
     ensures lies { IfOk result (λ x. All (LiesIn text.now) x.0.items) }
-    ensures exact { Gives (λ x. (lines_of text.now x.0.items, ahead_of text.now x.1)) result (text_at opened Part.Text [] place.number (lines (drop place.at text.now))) }
+    ensures exact { Gives (λ x. (lines_of text.now x.0.items, ahead_of text.now x.1)) result (text_at opened TextState.Text [] place.number (lines (drop place.at text.now))) }
 {
     let mut added = Vec::new(alloc);
-    let mut part = Part::Text;
+    let mut part = TextState::Text;
     let mut place = place;
     'lines: while let Some(end) = end_of_next(text, part, &added, place.at) {
         let span = Span {

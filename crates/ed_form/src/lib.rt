@@ -7,4 +7,4 @@ mod command;
 mod script;
 
 pub use command::{Command, command_at, is_command_line};
-pub use script::{EdEdit, EdScript, at_command, first_faults, lines_in_words, read_script};
+pub use script::{EdEdit, EdScript, at_command, first_faults, lines_laws, read_script};

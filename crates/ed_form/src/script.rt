@@ -180,7 +180,7 @@ pub fn first_faults()
 {}
 
 /// The tests on lines, in the words of the diffutils manual.
-pub fn lines_in_words()
+pub fn lines_laws()
     // A command is one number, or two with a comma, a letter, and nothing more.
     ensures command { (line : List ℕ) → is_command line ≡ true ↔ IsCommand line }
     // A line is a word where it is that, with a line feed or without.

@@ -1,9 +1,9 @@
 -- File patches of a digest: the old lines of their hunks, and that they stay a digest with their targets.
 use Rattle.std.proofs.Common.{◌≡◌, suc, ℕ, List, [], ◌∷◌, length, refl, ap}
-use Rattle.unified_form.specs.declared.skim.OldRange.{OldRange}
-use Rattle.file_patch.specs.declared.FilePatch.{FilePatch}
+use Rattle.unified_form.specs.declared.hunk_scan.OldRange.{OldRange}
+use Rattle.read_file_patch.specs.declared.FilePatch.{FilePatch}
 use Rattle.patch_options.specs.PlainJob.{PlainOptions}
-use Rattle.patch_text.specs.Digests.{AreDigests, IsDigest}
+use Rattle.read_patch_text.specs.Digests.{AreDigests, IsDigest}
 use Rattle.patch_set.specs.Naming.{IsNamed, AreNamed}
 use Rattle.patch_set.proofs.Named.{same-lawful}
 

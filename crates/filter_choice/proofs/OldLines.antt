@@ -11,9 +11,9 @@ use Rattle.hunk_core.specs.PlainHunk.{hunk_of, old_lines}
 use Rattle.hunk_core.proofs.TurnedLemmas.{turned-count}
 use Rattle.ed_form.specs.declared.script.EdEdit.{EdEdit}
 use Rattle.ed_form.specs.PlainEdit.{PlainEdit, lowest, edit_of, edits_of, AreLawful}
-use Rattle.file_patch.specs.declared.Change.{Change}
-use Rattle.file_patch.specs.declared.Change.TheVariants.{Hunks, Script}
-use Rattle.file_patch.specs.PlainPatch.{IsLawfulChange}
+use Rattle.read_file_patch.specs.declared.Change.{Change}
+use Rattle.read_file_patch.specs.declared.Change.TheVariants.{Hunks, Script}
+use Rattle.read_file_patch.specs.PlainPatch.{IsLawfulChange}
 use Rattle.filter_choice.specs.OldLines.{from_to, old_numbers, least, greatest, addressed, IsCounted}
 
 -- ---- a hunk

@@ -6,15 +6,15 @@ use Rattle.std.specs.Option.{option_to_list}
 use Rattle.std.proofs.lemmas.List.{length-map}
 use Rattle.line_list.specs.Completed.{completed}
 use Rattle.hunk_core.proofs.ReadSteps.{bind_ok, ok_is}
-use Rattle.unified_form.specs.declared.skim.OldRange.{OldRange}
-use Rattle.file_patch.specs.PlainPatch.{PlainChange, PlainHeader, PlainPatch, hunks, patch_of, script, is_script}
+use Rattle.unified_form.specs.declared.hunk_scan.OldRange.{OldRange}
+use Rattle.read_file_patch.specs.PlainPatch.{PlainChange, PlainHeader, PlainPatch, hunks, patch_of, script, is_script}
 use Rattle.patch_options.specs.PlainJob.{PlainOptions}
-use Rattle.file_patch.specs.Numbered.{distinct}
-use Rattle.file_patch.specs.Targets.{is_reserved}
-use Rattle.patch_text.specs.Patches.{patches_of}
-use Rattle.patch_text.specs.Digests.{AreDigests, digest, digested_all, digests_of, no_hunks}
-use Rattle.patch_text.specs.Outlines.{only_hunk, outline, outlined_all, outlines_of}
-use Rattle.patch_text.specs.Regions.{region_of, regions_of}
+use Rattle.read_file_patch.specs.Numbered.{distinct}
+use Rattle.read_file_patch.specs.Targets.{is_reserved}
+use Rattle.read_patch_text.specs.Patches.{patches_of}
+use Rattle.read_patch_text.specs.Digests.{AreDigests, digest, digested_all, digests_of, no_hunks}
+use Rattle.read_patch_text.specs.Outlines.{only_hunk, outline, outlined_all, outlines_of}
+use Rattle.read_patch_text.specs.Regions.{region_of, regions_of}
 use Rattle.patch_set.specs.declared.fault.SetFault.{SetFault}
 use Rattle.patch_set.specs.declared.fault.SetFault.TheVariants as faults
 use Rattle.patch_set.specs.Asked.{ways_of}

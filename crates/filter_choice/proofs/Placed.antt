@@ -4,10 +4,10 @@ use Rattle.std.specs.Prelude.{slice_get}
 use Rattle.std.proofs.lemmas.Option.{same_Some}
 use Rattle.line_list.specs.declared.Span.{Span}
 use Rattle.hunk_core.specs.Pieces.{AreInTurn}
-use Rattle.header_record.specs.declared.Header.{Header}
-use Rattle.file_patch.specs.declared.FilePatch.{FilePatch}
-use Rattle.file_patch.specs.PlainPatch.{row_count}
-use Rattle.patch_text.specs.Changes.{AreCut}
+use Rattle.read_header_record.specs.declared.Header.{Header}
+use Rattle.read_file_patch.specs.declared.FilePatch.{FilePatch}
+use Rattle.read_file_patch.specs.PlainPatch.{row_count}
+use Rattle.read_patch_text.specs.Changes.{AreCut}
 use Rattle.patch_set.specs.Spans.{IsPlaced, ArePlaced}
 
 by-itself : (text : List ℕ) (start before : ℕ) (p : FilePatch) → IsPlaced text start before p → IsPlaced text p.span.start p.first_verdict p

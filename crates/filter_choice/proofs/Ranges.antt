@@ -4,7 +4,7 @@ use Rattle.std.specs.Prelude.{nat_le, max, min}
 use Rattle.std.specs.List.{list_any}
 use Rattle.std.proofs.lemmas.Bool.{le-leb, leb-true, and_from}
 use Rattle.glob_match.proofs.Deciding.{found-in-range, in-range-found}
-use Rattle.tool_words.specs.PlainJobs.{PlainItems}
+use Rattle.cli_tool_words.specs.PlainJobs.{PlainItems}
 use Rattle.filter_choice.specs.Selected.{is_in}
 use Rattle.filter_choice.specs.OldLines.{from_to}
 

@@ -6,10 +6,10 @@ use Rattle.std.specs.Option.{ForSome}
 use Rattle.std.proofs.lemmas.List.{length-map}
 use Rattle.std.proofs.lemmas.List.Concat.{flat_map-cons}
 use Rattle.std.proofs.lemmas.Option.{get_or_from_slice_get, same_Some, slice_get-map, slice_get-get_or}
-use Rattle.file_patch.specs.declared.Change.{Change}
-use Rattle.file_patch.specs.PlainPatch.{PlainChange, hunks, script, hunk_count, row_count, change_of}
+use Rattle.read_file_patch.specs.declared.Change.{Change}
+use Rattle.read_file_patch.specs.PlainPatch.{PlainChange, hunks, script, hunk_count, row_count, change_of}
 use Rattle.patch_set.proofs.Named.{rows-counted}
-use Rattle.tool_words.specs.PlainJobs.{PlainFilterJob}
+use Rattle.cli_tool_words.specs.PlainJobs.{PlainFilterJob}
 use Rattle.line_list.proofs.Elements.{behind, numbered-from, numbered-long}
 use Rattle.filter_choice.specs.Selected.{numbered}
 use Rattle.filter_choice.specs.OldLines.{old_numbers, old_of_each}

@@ -1,12 +1,12 @@
 -- A patch text and its file patches without hunks, with the piece and the old lines of each.
 use Rattle.std.specs.Prelude.{◌≡◌, ℕ, List, map, Ok}
 use Rattle.line_list.specs.Completed.{completed}
-use Rattle.unified_form.specs.declared.skim.OldRange.{OldRange}
-use Rattle.file_patch.specs.declared.FilePatch.{FilePatch}
-use Rattle.file_patch.specs.PlainPatch.{PlainPatch, patch_of}
+use Rattle.unified_form.specs.declared.hunk_scan.OldRange.{OldRange}
+use Rattle.read_file_patch.specs.declared.FilePatch.{FilePatch}
+use Rattle.read_file_patch.specs.PlainPatch.{PlainPatch, patch_of}
 use Rattle.patch_options.specs.PlainJob.{PlainOptions}
-use Rattle.patch_text.specs.Digests.{AreDigests, digests_of}
-use Rattle.patch_text.specs.Regions.{region_of, regions_of}
+use Rattle.read_patch_text.specs.Digests.{AreDigests, digests_of}
+use Rattle.read_patch_text.specs.Regions.{region_of, regions_of}
 use Rattle.patch_set.specs.Asked.{ways_of}
 
 pub record DigestView : Type 0 where

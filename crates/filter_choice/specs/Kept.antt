@@ -1,8 +1,8 @@
 -- Which hunks are kept (manual page of `filterdiff`).
 use Rattle.std.specs.Prelude.{ℕ, suc, Bool, false, ◌&&◌, List, map, slice_index_or}
-use Rattle.file_patch.specs.PlainPatch.{PlainChange, PlainHeader, PlainPatch}
+use Rattle.read_file_patch.specs.PlainPatch.{PlainChange, PlainHeader, PlainPatch}
 use Rattle.patch_set.specs.PlainName.{plain_name}
-use Rattle.tool_words.specs.PlainJobs.{PlainFilterJob}
+use Rattle.cli_tool_words.specs.PlainJobs.{PlainFilterJob}
 use Rattle.filter_choice.specs.Selected.{is_selected, is_meant, is_one_meant, numbered}
 use Rattle.filter_choice.specs.OldLines.{old_of_each}
 

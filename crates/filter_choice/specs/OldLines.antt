@@ -3,9 +3,9 @@ use Rattle.std.specs.Prelude.{ℕ, suc, ◌-◌, ◌<◌, ◌^◌, ◌==◌, max
 use Rattle.std.specs.List.{range_with_len}
 use Rattle.hunk_core.specs.PlainHunk.{PlainHunk, old_lines}
 use Rattle.ed_form.specs.PlainEdit.{PlainEdit, lowest}
-use Rattle.file_patch.specs.declared.Change.{Change}
-use Rattle.file_patch.specs.declared.Change.TheVariants.{Hunks, Script}
-use Rattle.file_patch.specs.PlainPatch.{PlainChange, hunks, script}
+use Rattle.read_file_patch.specs.declared.Change.{Change}
+use Rattle.read_file_patch.specs.declared.Change.TheVariants.{Hunks, Script}
+use Rattle.read_file_patch.specs.PlainPatch.{PlainChange, hunks, script}
 use Rattle.filter_choice.specs.declared.numbers.Lines.{Lines}
 
 -- the numbers from a first to a last

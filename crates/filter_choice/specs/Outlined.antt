@@ -1,10 +1,10 @@
 -- A patch text and its file patches without their hunks.
 use Rattle.std.specs.Prelude.{◌≡◌, ℕ, List, map, Ok}
 use Rattle.line_list.specs.Completed.{completed}
-use Rattle.file_patch.specs.declared.FilePatch.{FilePatch}
-use Rattle.file_patch.specs.PlainPatch.{PlainPatch, patch_of}
+use Rattle.read_file_patch.specs.declared.FilePatch.{FilePatch}
+use Rattle.read_file_patch.specs.PlainPatch.{PlainPatch, patch_of}
 use Rattle.patch_options.specs.PlainJob.{PlainOptions}
-use Rattle.patch_text.specs.Outlines.{outlines_of}
+use Rattle.read_patch_text.specs.Outlines.{outlines_of}
 use Rattle.patch_set.specs.Asked.{ways_of}
 
 pub record OutlineView : Type 0 where

@@ -2,8 +2,8 @@
 use Rattle.std.specs.Prelude.{ℕ, Bool, true, false, not, nat_le, ◌&&◌, ◌||◌, List, length, Option, None, Some}
 use Rattle.std.specs.List.{list_any, range_with_len, zip}
 use Rattle.glob_match.specs.Matching.{does_match}
-use Rattle.file_patch.specs.Stripped.{shortened}
-use Rattle.tool_words.specs.PlainJobs.{PlainItems, PlainSelect, PlainRanges}
+use Rattle.read_file_patch.specs.Stripped.{shortened}
+use Rattle.cli_tool_words.specs.PlainJobs.{PlainItems, PlainSelect, PlainRanges}
 
 -- some of the patterns matches the whole name
 abbrev pub matches_any : List (List ℕ) → List ℕ → Bool

@@ -1,34 +1,34 @@
 //! A patch text and its file patches without hunks, for who leaves out file patches and hunks of the text.
 ghost use Rattle.std.specs.Prelude.{◌≡◌, ◌<◌, ◌≤◌, ◌^◌, Ok, Err, Some, IfOk, length, map, slice_get};
 ghost use Rattle.std.specs.Option.{ForSome};
-ghost use Rattle.file_patch.specs.PlainPatch.{header_of, patch_of};
+ghost use Rattle.read_file_patch.specs.PlainPatch.{header_of, patch_of};
 ghost use Rattle.patch_options.specs.PlainJob.{plain_options, IsLawful};
-ghost use Rattle.patch_text.specs.Digests.{AreDigests};
-ghost use Rattle.patch_text.specs.Regions.{region_of};
+ghost use Rattle.read_patch_text.specs.Digests.{AreDigests};
+ghost use Rattle.read_patch_text.specs.Regions.{region_of};
 ghost use Rattle.filter_choice.specs.Digested.{IsDigestOf};
 ghost use Rattle.patch_set.specs.PlainName.{plain_name};
 ghost use Rattle.patch_set.specs.Refusals.{refusal, refusal_of};
 ghost use Rattle.patch_set.specs.SetView.{Meets};
 
-use file_patch::FilePatch;
 use patch_options::Options;
 use patch_set::{SetFault, give_targets, plain_name, ways_of, whole_text};
-use patch_text::{Digests, read_digests};
+use read_file_patch::FilePatch;
+use read_patch_text::{Digests, read_digests};
 use std::alloc::Global;
 use std::marker::Model;
 use unified_form::OldRange;
 
 /// A patch text and its file patches, each without hunks, but with the piece and the old lines of each hunk; an ed script stays.
 #[derive(Drop)]
-pub struct Digest {
+pub struct HunkIndex {
     text: Vec<u8>,
     patches: Vec<FilePatch>,
     olds: Vec<Vec<OldRange>>,
 }
 
-impl Model for Digest {
+impl Model for HunkIndex {
     ghost use Rattle.std.specs.Prelude.{map};
-    ghost use Rattle.patch_text.specs.Digests.{AreDigests};
+    ghost use Rattle.read_patch_text.specs.Digests.{AreDigests};
     ghost use Rattle.filter_choice.specs.Digested.{DigestView};
 
     ghost Value = { DigestView };
@@ -38,7 +38,7 @@ impl Model for Digest {
     ghost invariant = { λ s. AreDigests s.text.items s.patches.items (map (λ os. os.items) s.olds.items) };
 }
 
-impl Digest {
+impl HunkIndex {
     /// The text that was read; its last line has its line feed.
     pub fn text(&self) -> &[u8]
         ensures { result.now ≡ self.now.text }
@@ -73,7 +73,7 @@ impl Digest {
 
 /// Reads the file patches of a text for these options as `read_set` does, and refuses what that refuses. Hunks of the unified form are read
 /// without being kept, those of the other forms one file patch at a time.
-pub fn read_digest(alloc: Global, text: Vec<u8>, options: &Options) -> Result<Digest, SetFault>
+pub fn read_digest(alloc: Global, text: Vec<u8>, options: &Options) -> Result<HunkIndex, SetFault>
     requires { IsLawful (plain_options options.now) }
     ensures digest { IfOk result (IsDigestOf (plain_options options.now) text.items) }
     ensures refused { Meets (refusal (plain_options options.now) text.items) result }
@@ -93,7 +93,7 @@ fn digest_of(
     text: Vec<u8>,
     options: &Options,
     digests: Digests,
-) -> Result<Digest, SetFault>
+) -> Result<HunkIndex, SetFault>
     requires options { IsLawful (plain_options options.now) }
     requires are { AreDigests text.items digests.patches.items (map (λ os. os.items) digests.olds.items) }
     requires count { length digests.patches.items < 2 ^ 32 }
@@ -105,7 +105,7 @@ fn digest_of(
     ensures refused { Meets (refusal_of (plain_options options.now) text.items (Ok (map (patch_of text.items) digests.patches.items))) result }
 {
     match give_targets(alloc, &text, options, digests.patches) {
-        Ok(named) => Ok(Digest {
+        Ok(named) => Ok(HunkIndex {
             text,
             patches: named.patches,
             olds: digests.olds,

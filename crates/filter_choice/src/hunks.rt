@@ -3,16 +3,16 @@
 ghost use Rattle.std.specs.Prelude.{◌≡◌, ◌<◌, ◌^◌, ℕ, List, Some, length, false, slice_get, slice_index_or};
 ghost use Rattle.hunk_core.specs.PlainHunk.{hunk_of};
 ghost use Rattle.ed_form.specs.PlainEdit.{IsLawfulScript, edits_of};
-ghost use Rattle.file_patch.specs.PlainPatch.{IsLawfulChange, change_of, row_count};
-ghost use Rattle.tool_words.specs.PlainJobs.{plain_filter_job};
+ghost use Rattle.read_file_patch.specs.PlainPatch.{IsLawfulChange, change_of, row_count};
+ghost use Rattle.cli_tool_words.specs.PlainJobs.{plain_filter_job};
 ghost use Rattle.filter_choice.specs.OldLines.{IsCounted, addressed, numbers_of, old_numbers, old_of_each};
 ghost use Rattle.filter_choice.specs.Kept.{kept};
 
 use crate::numbers::{Lines, is_meant, is_one_meant};
+use cli_tool_words::FilterJob;
 use ed_form::EdScript;
-use file_patch::Change;
 use hunk_core::{Hunk, Side};
-use tool_words::FilterJob;
+use read_file_patch::Change;
 
 fn old_lines(hunk: &Hunk) -> Lines
     requires { length hunk.now.body.items < 2 ^ 32 }

@@ -2,16 +2,16 @@
 
 ghost use Rattle.std.specs.Prelude.{◌≡◌, ◌<◌, length, suc};
 ghost use Rattle.std.specs.Option.{ForSome};
-ghost use Rattle.file_patch.specs.PlainPatch.{header_of, patch_of, row_count};
+ghost use Rattle.read_file_patch.specs.PlainPatch.{header_of, patch_of, row_count};
 ghost use Rattle.patch_set.specs.SetView.{patch_at};
-ghost use Rattle.tool_words.specs.PlainJobs.{plain_filter_job};
+ghost use Rattle.cli_tool_words.specs.PlainJobs.{plain_filter_job};
 ghost use Rattle.filter_choice.specs.Kept.{is_taken, keeps};
 
 use crate::hunks::is_kept;
 use crate::numbers::{is_meant, is_selected};
 use crate::set::patch_at;
+use cli_tool_words::FilterJob;
 use patch_set::PatchSet;
-use tool_words::FilterJob;
 
 /// Whether a file patch, counted from 0, is meant.
 fn is_taken(set: &PatchSet, job: &FilterJob, patch: u32) -> bool

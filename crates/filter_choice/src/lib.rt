@@ -1,5 +1,5 @@
 //! Which file patches and which hunks the words of a filter mean, by names, numbers and old lines; and the file patches of a text
-//! without their hunks: outlines for who lists them, digests for who leaves some out. Stands on `patch_set` and `tool_words`. Begin
+//! without their hunks: outlines for who lists them, digests for who leaves some out. Stands on `patch_set` and `cli_tool_words`. Begin
 //! with `specs/Selected.antt`, then `specs/Kept.antt`.
 #![tactic(auto)]
 
@@ -10,9 +10,9 @@ mod numbers;
 mod outline;
 mod set;
 
-pub use digest::{Digest, read_digest};
+pub use digest::{HunkIndex, read_digest};
 pub use hunks::addressed;
 pub use kept::keeps;
 pub use numbers::{Lines, is_meant, is_one_meant, is_selected};
-pub use outline::{Outline, read_outline};
+pub use outline::{FilePatchList, read_outline};
 pub use set::patch_at;

@@ -2,13 +2,13 @@
 
 ghost use Rattle.std.specs.Prelude.{◌≡◌, map, max, min, nat_le};
 ghost use Rattle.std.specs.List.{list_any};
-ghost use Rattle.tool_words.specs.PlainJobs.{plain_ranges, plain_select};
+ghost use Rattle.cli_tool_words.specs.PlainJobs.{plain_ranges, plain_select};
 ghost use Rattle.filter_choice.specs.Selected.{by_others, is_in, is_meant, is_one_meant, is_selected, matches_any};
 ghost use Rattle.filter_choice.specs.OldLines.{numbers_of};
 
-use file_patch::shortened;
+use cli_tool_words::{Ranges, Select};
 use glob_match::matches;
-use tool_words::{Ranges, Select};
+use read_file_patch::shortened;
 
 /// The numbers from a first to a last.
 #[derive(Clone, Copy)]

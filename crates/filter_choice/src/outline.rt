@@ -1,31 +1,31 @@
 //! A patch text and its file patches without their hunks, for who wants no more than a list of them.
 ghost use Rattle.std.specs.Prelude.{◌≡◌, ◌<◌, ◌≤◌, ◌^◌, Ok, Err, All, IfOk, length, map, slice_get};
 ghost use Rattle.std.specs.Option.{ForSome};
-ghost use Rattle.file_patch.specs.Absent.{IsLawfulPatch};
-ghost use Rattle.file_patch.specs.PlainPatch.{header_of, patch_of};
+ghost use Rattle.read_file_patch.specs.Absent.{IsLawfulPatch};
+ghost use Rattle.read_file_patch.specs.PlainPatch.{header_of, patch_of};
 ghost use Rattle.patch_options.specs.PlainJob.{plain_options, IsLawful};
 ghost use Rattle.filter_choice.specs.Outlined.{IsOutline};
 ghost use Rattle.patch_set.specs.PlainName.{plain_name};
 ghost use Rattle.patch_set.specs.Refusals.{refusal, refusal_of};
 ghost use Rattle.patch_set.specs.SetView.{Meets};
 
-use file_patch::FilePatch;
 use patch_options::Options;
 use patch_set::{SetFault, give_targets, plain_name, ways_of, whole_text};
-use patch_text::read_outlines;
+use read_file_patch::FilePatch;
+use read_patch_text::read_outlines;
 use std::alloc::Global;
 use std::marker::Model;
 
 /// A patch text and its file patches, each with its only hunk or, if it has several, with none; an ed script stays.
 #[derive(Drop)]
-pub struct Outline {
+pub struct FilePatchList {
     text: Vec<u8>,
     patches: Vec<FilePatch>,
 }
 
-impl Model for Outline {
+impl Model for FilePatchList {
     ghost use Rattle.std.specs.Prelude.{All};
-    ghost use Rattle.file_patch.specs.Absent.{IsLawfulPatch};
+    ghost use Rattle.read_file_patch.specs.Absent.{IsLawfulPatch};
     ghost use Rattle.filter_choice.specs.Outlined.{OutlineView};
 
     ghost Value = { OutlineView };
@@ -35,7 +35,7 @@ impl Model for Outline {
     ghost invariant = { λ s. All (IsLawfulPatch s.text.items) s.patches.items };
 }
 
-impl Outline {
+impl FilePatchList {
     /// The file patches in the order of the text.
     pub fn patches(&self) -> &[FilePatch]
         ensures patches { result.now ≡ self.now.patches }
@@ -55,7 +55,11 @@ impl Outline {
 
 /// Reads the file patches of a text for these options as `read_set` does, and refuses what that refuses. Hunks of the unified form but the
 /// first of each file patch are read without being kept, those of the other forms one file patch at a time.
-pub fn read_outline(alloc: Global, text: Vec<u8>, options: &Options) -> Result<Outline, SetFault>
+pub fn read_outline(
+    alloc: Global,
+    text: Vec<u8>,
+    options: &Options,
+) -> Result<FilePatchList, SetFault>
     requires { IsLawful (plain_options options.now) }
     ensures outline { IfOk result (IsOutline (plain_options options.now) text.items) }
     ensures refused { Meets (refusal (plain_options options.now) text.items) result }
@@ -75,7 +79,7 @@ fn outline_of(
     text: Vec<u8>,
     options: &Options,
     patches: Vec<FilePatch>,
-) -> Result<Outline, SetFault>
+) -> Result<FilePatchList, SetFault>
     requires options { IsLawful (plain_options options.now) }
     requires lawful { All (IsLawfulPatch text.items) patches.items }
     requires count { length patches.items < 2 ^ 32 }
@@ -84,7 +88,7 @@ fn outline_of(
     ensures refused { Meets (refusal_of (plain_options options.now) text.items (Ok (map (patch_of text.items) patches.items))) result }
 {
     match give_targets(alloc, &text, options, patches) {
-        Ok(named) => Ok(Outline {
+        Ok(named) => Ok(FilePatchList {
             text,
             patches: named.patches,
         }),

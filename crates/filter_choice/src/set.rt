@@ -1,12 +1,12 @@
 //! One file patch of a set.
 
 ghost use Rattle.std.specs.Prelude.{◌≡◌, ◌<◌, Some, length};
-ghost use Rattle.file_patch.specs.Absent.{IsLawfulPatch};
+ghost use Rattle.read_file_patch.specs.Absent.{IsLawfulPatch};
 ghost use Rattle.patch_set.specs.SetView.{patch_at};
 ghost use Rattle.patch_set.specs.Spans.{IsPlaced};
 
-use file_patch::FilePatch;
 use patch_set::PatchSet;
+use read_file_patch::FilePatch;
 
 /// A file patch, counted from 0.
 pub fn patch_at(set: &PatchSet, patch: u32) -> &FilePatch

@@ -17,7 +17,7 @@ use Rattle.line_list.specs.Lines.{lines}
 use Rattle.normal_form.specs.Canonical.{are_added, drops_come_first}
 use Rattle.normal_form.specs.Grammar.{SpellsHunk, on_side}
 use Rattle.normal_form.proofs.WritingLemmas.{added-nil}
-use Rattle.patch_text.specs.Changes.{Spells}
+use Rattle.read_patch_text.specs.Changes.{Spells}
 use Rattle.flip_patch.specs.Ordered.{IsOrdered}
 
 added-step : (l : HunkLine) (ls : List HunkLine) → l.mark ≡ Add → are_added ls ≡ true → are_added (l ∷ ls) ≡ true

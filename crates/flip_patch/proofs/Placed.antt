@@ -8,8 +8,8 @@ use Rattle.hunk_core.specs.declared.Form.{Form}
 use Rattle.hunk_core.specs.declared.Hunk.{Hunk}
 use Rattle.hunk_core.specs.PlainHunk.{hunk_of, hunks_of}
 use Rattle.hunk_core.specs.Turned.{swapped}
-use Rattle.file_patch.specs.declared.FilePatch.{FilePatch}
-use Rattle.file_patch.specs.PlainPatch.{row_count}
+use Rattle.read_file_patch.specs.declared.FilePatch.{FilePatch}
+use Rattle.read_file_patch.specs.PlainPatch.{row_count}
 use Rattle.patch_set.specs.Spans.{ArePlaced, IsPlaced}
 use Rattle.patch_set.specs.SetView.{SetView}
 use Rattle.flip_patch.specs.Flipped.{flipped, flipped_patch, hunk_text}

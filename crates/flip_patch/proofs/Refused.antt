@@ -6,11 +6,11 @@ use Rattle.std.proofs.lemmas.List.{drop_more, drop_all}
 use Rattle.std.proofs.lemmas.Bool.Decides.{nat_tests}
 use Rattle.hunk_core.specs.declared.Hunk.{Hunk}
 use Rattle.hunk_core.specs.PlainHunk.{hunks_of}
-use Rattle.file_patch.specs.declared.Change.{Change}
-use Rattle.file_patch.specs.declared.Change.TheVariants.{Hunks, Script}
-use Rattle.file_patch.specs.declared.FilePatch.{FilePatch}
-use Rattle.file_patch.specs.Actions.{is_moved}
-use Rattle.file_patch.specs.PlainPatch.{PlainPatch, change_of, patch_of, is_script, first_opening}
+use Rattle.read_file_patch.specs.declared.Change.{Change}
+use Rattle.read_file_patch.specs.declared.Change.TheVariants.{Hunks, Script}
+use Rattle.read_file_patch.specs.declared.FilePatch.{FilePatch}
+use Rattle.read_file_patch.specs.Actions.{is_moved}
+use Rattle.read_file_patch.specs.PlainPatch.{PlainPatch, change_of, patch_of, is_script, first_opening}
 use Rattle.flip_patch.specs.declared.fault.FlipFault.TheVariants.{EdReverse, Unfit}
 use Rattle.flip_patch.specs.Refusals.{is_unfit, new_starts, refused, starts_fall, told_starts, told_unfit}
 use Rattle.patch_set.specs.Looks.{is_script_change}

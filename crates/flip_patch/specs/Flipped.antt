@@ -9,8 +9,8 @@ use Rattle.hunk_core.specs.Turned.{swapped}
 use Rattle.unified_form.specs.Canonical as unified
 use Rattle.context_form.specs.Canonical as context
 use Rattle.normal_form.specs.Canonical as normal
-use Rattle.file_patch.specs.declared.FilePatch.{FilePatch}
-use Rattle.file_patch.specs.PlainPatch.{PlainChange, hunks, script, change_of}
+use Rattle.read_file_patch.specs.declared.FilePatch.{FilePatch}
+use Rattle.read_file_patch.specs.PlainPatch.{PlainChange, hunks, script, change_of}
 use Rattle.patch_set.specs.SetView.{SetView}
 use Rattle.flip_patch.specs.HeaderText.{header_text}
 

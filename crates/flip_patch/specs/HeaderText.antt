@@ -6,8 +6,8 @@ use Rattle.hunk_core.specs.declared.Form.{Form}
 use Rattle.hunk_core.specs.declared.Side.{Side}
 use Rattle.hunk_core.specs.declared.Side.TheVariants.{Forward, Reversed}
 use Rattle.hunk_core.specs.Turned.{other_side}
-use Rattle.header_record.specs.declared.Header.{Header}
-use Rattle.file_patch.specs.PlainPatch.{PlainHeader, header_of}
+use Rattle.read_header_record.specs.declared.Header.{Header}
+use Rattle.read_file_patch.specs.PlainPatch.{PlainHeader, header_of}
 use Rattle.patch_set.specs.PlainName.{file_name, plain_name}
 use Rattle.patch_header.specs.Written.{old_mark, new_mark, name_end}
 use Rattle.flip_patch.specs.Marks.{shows_names}

@@ -3,18 +3,18 @@
 ghost use Rattle.std.specs.Prelude.{◌≡◌, ◌<◌, ◌++◌, length};
 ghost use Rattle.std.specs.Option.{ForSome};
 ghost use Rattle.outside.specs.Puts.{Puts};
-ghost use Rattle.file_patch.specs.PlainPatch.{header_of};
+ghost use Rattle.read_file_patch.specs.PlainPatch.{header_of};
 ghost use Rattle.patch_set.specs.PlainName.{plain_name};
 ghost use Rattle.patch_set.specs.SetView.{patch_at};
 ghost use Rattle.flip_patch.specs.HeaderText.{header_text, index_if, named_line};
 
 use crate::marks::{name_end, new_mark, old_mark, shows_names};
 use crate::names::{needs_index, rest_of_line, span_on};
-use header_record::Header;
 use hunk_core::{Form, Side};
 use line_list::Span;
 use outside::{Failed, Sink, put_all};
 use patch_set::PatchSet;
+use read_header_record::Header;
 
 fn put_piece<O: Sink>(out: &mut O, piece: &[u8]) -> Result<(), Failed>
     ensures { Puts O.view O.same_rest out.old out.new result piece.now }

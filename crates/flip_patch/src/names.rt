@@ -2,15 +2,15 @@
 
 ghost use Rattle.std.specs.Prelude.{◌≡◌, is_some};
 ghost use Rattle.std.specs.Option.{option_copied};
-ghost use Rattle.file_patch.specs.PlainPatch.{header_of};
+ghost use Rattle.read_file_patch.specs.PlainPatch.{header_of};
 ghost use Rattle.patch_set.specs.PlainName.{file_name};
 ghost use Rattle.flip_patch.specs.HeaderText.{names_file, needs_index, rest_of_line, span_on};
 
 use crate::marks::shows_names;
-use header_record::Header;
 use hunk_core::{Form, Side};
 use line_list::{Span, next_line};
 use patch_set::bytes_in;
+use read_header_record::Header;
 
 /// Whether there is a name, and it isn't `/dev/null`.
 fn is_file(name: Option<&[u8]>) -> bool

@@ -4,18 +4,18 @@ ghost use Rattle.std.specs.Prelude.{◌≡◌, ◌<◌, Some, length};
 ghost use Rattle.std.specs.List.{flat_map};
 ghost use Rattle.std.specs.Option.{ForSome};
 ghost use Rattle.outside.specs.Puts.{Puts};
-ghost use Rattle.file_patch.specs.Absent.{IsLawfulPatch};
-ghost use Rattle.file_patch.specs.PlainPatch.{change_of};
+ghost use Rattle.read_file_patch.specs.Absent.{IsLawfulPatch};
+ghost use Rattle.read_file_patch.specs.PlainPatch.{change_of};
 ghost use Rattle.patch_set.specs.SetView.{patch_at};
 ghost use Rattle.patch_set.specs.Spans.{IsPlaced};
 ghost use Rattle.flip_patch.specs.Flipped.{flipped_patch, hunk_text, swapped_hunks};
 
 use crate::hunks::put_hunks;
 use crate::put_header_lines;
-use file_patch::{Change, FilePatch};
 use hunk_core::Side;
 use outside::{Failed, Sink};
 use patch_set::PatchSet;
+use read_file_patch::{Change, FilePatch};
 
 /// A file patch, counted from 0.
 fn patch_at(set: &PatchSet, patch: u32) -> &FilePatch

@@ -1,13 +1,13 @@
 //! The file patches that can't be turned round.
 
 ghost use Rattle.std.specs.Prelude.{◌≡◌, ℕ, List, find, map, option_map};
-ghost use Rattle.file_patch.specs.PlainPatch.{patch_of};
+ghost use Rattle.read_file_patch.specs.PlainPatch.{patch_of};
 ghost use Rattle.flip_patch.specs.Refusals.{refused, starts_fall, told_starts, told_unfit};
 ghost use Rattle.patch_set.specs.Looks.{is_script_change};
 
 use crate::fault::FlipFault;
-use file_patch::{Change, FilePatch};
 use hunk_core::Hunk;
+use read_file_patch::{Change, FilePatch};
 
 fn is_script(patch: &FilePatch) -> bool
     ensures { result ≡ is_script_change patch.now.change }

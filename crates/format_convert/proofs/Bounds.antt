@@ -17,7 +17,7 @@ use Rattle.format_convert.specs.Walk.{IsKept, IsSmall, new_start, way_of}
 use Rattle.format_convert.specs.declared.block.Block.{Block}
 use Rattle.format_convert.specs.declared.kept.Kept.{Kept}
 use Rattle.format_convert.specs.declared.normal.Net.{Net}
-use Rattle.format_convert.specs.declared.place.Place.{Place}
+use Rattle.format_convert.specs.declared.place.EditCursor.{EditCursor}
 
 -- ---- places in a list
 
@@ -180,10 +180,10 @@ own-long hs i n h is count = count ∙ body-long (get_or hs i h) ∙ ap (λ (x :
 pub line-low : (line n : ℕ) → line < n → n < 2 ^ 32 → line < 2 ^ 32
 line-low line n lt few = omega arith
 
-pub way-next : (count : ℕ) (p b : Place) → b.hunk ≡ p.hunk + 1 → p.hunk < count → way_of count b < way_of count p
+pub way-next : (count : ℕ) (p b : EditCursor) → b.hunk ≡ p.hunk + 1 → p.hunk < count → way_of count b < way_of count p
 way-next count p b is lt = omega (arith, is, lt)
 
-pub way-line : (count : ℕ) (p b : Place) → b.hunk ≡ p.hunk → b.line ≡ p.line + 1 → p.line < 2 ^ 32 → way_of count b < way_of count p
+pub way-line : (count : ℕ) (p b : EditCursor) → b.hunk ≡ p.hunk → b.line ≡ p.line + 1 → p.line < 2 ^ 32 → way_of count b < way_of count p
 way-line count p b same is low = omega (arith, same, is, low)
 
 pub whole-next : (base count own taken more : ℕ) → base ≡ own → count ≡ taken → more ≡ taken → base + count ≡ own + more

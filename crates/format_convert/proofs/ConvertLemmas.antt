@@ -6,7 +6,7 @@ use Rattle.outside.specs.SinkView.{SinkView, sink_passes_none}
 use Rattle.outside.specs.declared.Failed.{Failed}
 use Rattle.outside.specs.Puts.{Puts}
 use Rattle.hunk_core.specs.declared.Form.{Form}
-use Rattle.file_patch.specs.PlainPatch.{PlainPatch, first_opening}
+use Rattle.read_file_patch.specs.PlainPatch.{PlainPatch, first_opening}
 use Rattle.format_convert.specs.declared.fault.ConvertFault.{ConvertFault}
 use Rattle.format_convert.specs.declared.fault.ConvertFault.TheVariants.{NoContext, Unfit, Write}
 use Rattle.format_convert.specs.Converted.{Converts, HasConvertCause}

@@ -18,7 +18,7 @@ use Rattle.format_convert.specs.Backward.{closing, closing_if, first_text, grown
 use Rattle.format_convert.specs.Blocks.{Block, Edit, add_at, behind, block_of, blocks_of, body_edits, drop_at, in_front, marked_edits}
 use Rattle.format_convert.specs.Commands.{ed_command, ed_head, ed_line, ed_lines, ed_text, goes_on}
 use Rattle.format_convert.specs.declared.kept.Kept.{Kept}
-use Rattle.format_convert.specs.declared.place.Place.{Place}
+use Rattle.format_convert.specs.declared.place.EditCursor.{EditCursor}
 use Rattle.format_convert.specs.Walk.{edits_left}
 use Rattle.hunk_core.specs.Turned.{is_keep}
 use Rattle.format_convert.specs.Fronts.{begins_at, front, front_block, front_rest, is_on}
@@ -226,12 +226,12 @@ keep-edits Keep q line es is = refl
 keep-edits Drop q line es is = absurd cc
 keep-edits Add q line es is = absurd cc
 
-either : (k : Kept) (b : Bool) (front place p : Place) (whole : List Edit) → p ≡ cond b front place → (b ≡ true → edits_left k front ≡ whole) → edits_left k place ≡ whole → edits_left k p ≡ whole
+either : (k : Kept) (b : Bool) (front place p : EditCursor) (whole : List Edit) → p ≡ cond b front place → (b ≡ true → edits_left k front ≡ whole) → edits_left k place ≡ whole → edits_left k p ≡ whole
 either k true front place p whole e f g = ap (edits_left k) e ∙ f refl
 either k false front place p whole e f g = ap (edits_left k) e ∙ g
 
 -- the front behind a line: it is the place there, unless the line is kept
-pub front-is : (k : Kept) (mark : Mark) (q : ℕ) (line : List ℕ) (es own left : List Edit) (front place p : Place) → p ≡ cond (is_keep mark) front place → own ≡ marked_edits mark q line (λ _. es) → edits_left k front ≡ es ++ left → edits_left k place ≡ own ++ left → edits_left k p ≡ own ++ left
+pub front-is : (k : Kept) (mark : Mark) (q : ℕ) (line : List ℕ) (es own left : List Edit) (front place p : EditCursor) → p ≡ cond (is_keep mark) front place → own ≡ marked_edits mark q line (λ _. es) → edits_left k front ≡ es ++ left → edits_left k place ≡ own ++ left → edits_left k p ≡ own ++ left
 front-is k mark q line es own left front place p e more was at =
     either k (is_keep mark) front place p (own ++ left) e (λ kept. was ∙ ap (λ xs. xs ++ left) (sym (more ∙ keep-edits mark q line es kept))) at
 

@@ -11,15 +11,15 @@ use Rattle.hunk_core.specs.declared.Form.{Form}
 use Rattle.hunk_core.specs.declared.Hunk.{Hunk}
 use Rattle.line_list.specs.declared.Span.{Span}
 use Rattle.hunk_core.specs.PlainHunk.{PlainHunk, bytes_at, hunk_of, hunks_of}
-use Rattle.file_patch.specs.declared.FilePatch.{FilePatch}
-use Rattle.file_patch.specs.declared.Change.{Change}
-use Rattle.file_patch.specs.declared.Change.TheVariants.{Hunks, Script}
-use Rattle.file_patch.specs.PlainPatch.{AreLawfulHunks, IsLawfulChange, PlainChange, PlainPatch, hunks, script, patch_of, hunk_count, row_count, first_opening}
+use Rattle.read_file_patch.specs.declared.FilePatch.{FilePatch}
+use Rattle.read_file_patch.specs.declared.Change.{Change}
+use Rattle.read_file_patch.specs.declared.Change.TheVariants.{Hunks, Script}
+use Rattle.read_file_patch.specs.PlainPatch.{AreLawfulHunks, IsLawfulChange, PlainChange, PlainPatch, hunks, script, patch_of, hunk_count, row_count, first_opening}
 use Rattle.patch_set.specs.SetView.{SetView, patch_at, plain_patches}
 use Rattle.patch_set.proofs.Named.{rows-counted}
 use Rattle.filter_choice.specs.Kept.{keeps}
 use Rattle.filter_choice.proofs.Rows.{zip-at, zip-count}
-use Rattle.tool_words.specs.PlainJobs.{PlainFilterJob}
+use Rattle.cli_tool_words.specs.PlainJobs.{PlainFilterJob}
 use Rattle.format_convert.specs.Taken.{flags, has_kept, left_change, left_patch, left_patches, patch_if}
 use Rattle.format_convert.specs.Walk.{IsHunks}
 use Rattle.format_convert.proofs.Rows.{flag-at, flags-long}

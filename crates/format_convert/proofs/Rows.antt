@@ -7,16 +7,16 @@ use Rattle.std.proofs.lemmas.Option.{get_or_from_slice_get, slice_get-get_or}
 use Rattle.hunk_core.specs.declared.Hunk.{Hunk}
 use Rattle.hunk_core.specs.PlainHunk.{hunks_of}
 use Rattle.std.proofs.lemmas.Option.{same_Some}
-use Rattle.file_patch.specs.declared.Change.{Change}
-use Rattle.file_patch.specs.declared.Change.TheVariants.{Hunks, Script}
-use Rattle.file_patch.specs.declared.FilePatch.{FilePatch}
-use Rattle.file_patch.specs.PlainPatch.{AreLawfulHunks, IsLawfulChange, PlainPatch, change_of, hunk_count, hunks, patch_of, row_count}
+use Rattle.read_file_patch.specs.declared.Change.{Change}
+use Rattle.read_file_patch.specs.declared.Change.TheVariants.{Hunks, Script}
+use Rattle.read_file_patch.specs.declared.FilePatch.{FilePatch}
+use Rattle.read_file_patch.specs.PlainPatch.{AreLawfulHunks, IsLawfulChange, PlainPatch, change_of, hunk_count, hunks, patch_of, row_count}
 use Rattle.patch_set.specs.SetView.{SetView, patch_at}
-use Rattle.tool_words.specs.declared.jobs.FilterJob.{FilterJob}
+use Rattle.cli_tool_words.specs.declared.jobs.FilterJob.{FilterJob}
 use Rattle.patch_set.proofs.Named.{rows-counted}
 use Rattle.filter_choice.specs.Kept.{keeps}
 use Rattle.filter_choice.proofs.Rows.{zip-at, zip-count}
-use Rattle.tool_words.specs.PlainJobs.{PlainFilterJob, plain_filter_job}
+use Rattle.cli_tool_words.specs.PlainJobs.{PlainFilterJob, plain_filter_job}
 use Rattle.line_list.proofs.Elements.{found}
 use Rattle.format_convert.specs.Taken.{flags, left_change, left_patch}
 use Rattle.format_convert.specs.Walk.{IsHunks, IsKept, kept_flags, left_hunks, pairs}

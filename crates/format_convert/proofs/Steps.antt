@@ -18,7 +18,7 @@ use Rattle.format_convert.specs.Taken.{hunk_if, kept_hunks}
 use Rattle.format_convert.specs.Blocks.{Edit, add_at, body_edits, drop_at, hunk_edits, marked_edits}
 use Rattle.format_convert.specs.Walk.{IsKept, edits_if, edits_left, edits_of, first_if, kept_flags, left_at, left_from, left_hunks, pair_left, pairs}
 use Rattle.format_convert.specs.declared.kept.Kept.{Kept}
-use Rattle.format_convert.specs.declared.place.Place.{Place}
+use Rattle.format_convert.specs.declared.place.EditCursor.{EditCursor}
 use Rattle.format_convert.proofs.Rows.{pair-at, none-behind}
 
 -- ---- a body
@@ -169,7 +169,7 @@ left-few text line next (suc i) [] hs = omega arith
 left-few text line next (suc i) (b ∷ fs) [] = omega arith
 left-few text line next (suc i) (b ∷ fs) (h ∷ hs) = omega (arith, left-few text line next i fs hs, sum-cons h hs)
 
-pub few-left : (k : Kept) (is : IsKept k) (p : Place) → length (edits_left k p) < 2 ^ 32
+pub few-left : (k : Kept) (is : IsKept k) (p : EditCursor) → length (edits_left k p) < 2 ^ 32
 few-left k is p = omega (arith, left-few k.set.now.text p.line p.next p.hunk (kept_flags k) k.hunks.now, is.lawful.few)
 
 pub same-left : (text : List ℕ) (rows : List (Bool × Hunk)) (h h2 l l2 n n2 : ℕ) → h ≡ h2 → l ≡ l2 → n ≡ n2 → left_at text rows h l n ≡ left_at text rows h2 l2 n2

@@ -7,7 +7,7 @@ use Rattle.format_convert.specs.Commands.{ed_command, ed_text}
 use Rattle.format_convert.specs.Fronts.{begins_at}
 use Rattle.format_convert.specs.Walk.{edits_left, edits_of, pairs}
 use Rattle.format_convert.specs.declared.kept.Kept.{Kept}
-use Rattle.format_convert.specs.declared.place.Place.{Place}
+use Rattle.format_convert.specs.declared.place.EditCursor.{EditCursor}
 
 -- the command of the first block, if there is one
 abbrev pub first_text : List Block → List ℕ
@@ -33,5 +33,5 @@ abbrev pub closing_if : Mark → ℕ → List Edit → List ℕ
 closing_if mark next es = if is_keep mark then [] else closing next es
 
 -- the place in front of which nothing was walked over yet, behind a hunk
-abbrev pub StandsBehind : Kept → ℕ → Place → Type 0
+abbrev pub StandsBehind : Kept → ℕ → EditCursor → Type 0
 StandsBehind k hunk p = edits_left k p ≡ edits_of k.set.now.text (drop hunk (pairs k))

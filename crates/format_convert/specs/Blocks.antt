@@ -6,7 +6,7 @@ use Rattle.hunk_core.specs.declared.Mark.TheVariants.{Keep, Drop, Add}
 use Rattle.hunk_core.specs.PlainHunk.{Marked, PlainHunk}
 use Rattle.hunk_core.specs.Turned.{base}
 use Rattle.ed_form.specs.PlainEdit.{PlainEdit}
-use Rattle.file_patch.specs.PlainPatch.{PlainChange, hunks, script}
+use Rattle.read_file_patch.specs.PlainPatch.{PlainChange, hunks, script}
 
 -- a line that is added in the gap before line `at`, or line `at` that is dropped
 pub record Edit : Type 0 where

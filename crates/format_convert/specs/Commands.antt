@@ -6,7 +6,7 @@ use Rattle.hunk_core.specs.declared.Side.{Side}
 use Rattle.hunk_core.specs.declared.Form.{Form}
 use Rattle.hunk_core.specs.declared.Form.TheVariants.{Unified, Context, Normal, Ed}
 use Rattle.ed_form.specs.Texts.{is_dot}
-use Rattle.file_patch.specs.PlainPatch.{PlainChange, hunks, script}
+use Rattle.read_file_patch.specs.PlainPatch.{PlainChange, hunks, script}
 use Rattle.normal_form.specs.Canonical.{action_for, line_text, lines_text}
 use Rattle.hunk_core.specs.Spans.{span_text}
 use Rattle.format_convert.specs.Blocks.{Block, Edit, blocks_in}

@@ -10,7 +10,7 @@ use Rattle.hunk_core.specs.PlainHunk.{Marked, PlainHunk, old_lines}
 use Rattle.hunk_core.specs.LineTests.{ends_line}
 use Rattle.hunk_core.specs.Rules.{lacks_inner_end, is_too_large}
 use Rattle.hunk_core.specs.Turned.{base, is_add, is_drop}
-use Rattle.file_patch.specs.PlainPatch.{PlainChange, hunks, script}
+use Rattle.read_file_patch.specs.PlainPatch.{PlainChange, hunks, script}
 use Rattle.format_convert.specs.Blocks.{Block, blocks_in}
 use Rattle.format_convert.specs.Commands.{new_first, range_start}
 

@@ -3,7 +3,7 @@ use Rattle.std.specs.Prelude.{ℕ, Bool, true, false, not, ◌&&◌, List, Optio
 use Rattle.std.specs.Option.{option_or}
 use Rattle.hunk_core.specs.declared.Form.{Form}
 use Rattle.hunk_core.specs.declared.Form.TheVariants.{Unified, Context, Normal, Ed}
-use Rattle.file_patch.specs.PlainPatch.{PlainChange, PlainPatch, hunks, script, first_opening}
+use Rattle.read_file_patch.specs.PlainPatch.{PlainChange, PlainPatch, hunks, script, first_opening}
 use Rattle.format_convert.specs.Fitting.{is_ed, is_unfit as change_unfit}
 use Rattle.format_convert.specs.declared.fault.ConvertFault.{ConvertFault}
 use Rattle.format_convert.specs.declared.fault.ConvertFault.TheVariants.{NoContext, Unfit}

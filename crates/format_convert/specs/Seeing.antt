@@ -7,7 +7,7 @@ use Rattle.hunk_core.specs.Rules.{lacks_inner_end, is_too_large}
 use Rattle.format_convert.specs.Commands.{range_start}
 use Rattle.format_convert.specs.Walk.{new_start}
 use Rattle.format_convert.specs.declared.block.Block.{Block as Size}
-use Rattle.format_convert.specs.declared.fitting.Seen.{Seen}
+use Rattle.format_convert.specs.declared.fitting.OpenEnds.{OpenEnds}
 use Rattle.format_convert.specs.declared.normal.Net.{Net}
 
 -- the last of some lines has no line feed
@@ -17,7 +17,7 @@ ends_open (line ∷ []) = not (ends_line line)
 ends_open (line ∷ next ∷ more) = ends_open (next ∷ more)
 
 -- what was seen of these lines
-pub record Sees (s : Seen) (ls : List (List ℕ)) : Type 0 where
+pub record Sees (s : OpenEnds) (ls : List (List ℕ)) : Type 0 where
   pub end : s.open_end ≡ ends_open ls
   pub inside : s.open_inside ≡ lacks_inner_end ls
 

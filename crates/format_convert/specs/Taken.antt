@@ -2,9 +2,9 @@
 use Rattle.std.specs.Prelude.{ℕ, Bool, List, [], ◌∷◌, length, map, if◌then◌else◌}
 use Rattle.std.specs.List.{flat_map, list_any, range_with_len, zip}
 use Rattle.hunk_core.specs.PlainHunk.{PlainHunk}
-use Rattle.file_patch.specs.PlainPatch.{PlainChange, PlainPatch, hunks, script, hunk_count}
+use Rattle.read_file_patch.specs.PlainPatch.{PlainChange, PlainPatch, hunks, script, hunk_count}
 use Rattle.filter_choice.specs.Kept.{keeps}
-use Rattle.tool_words.specs.PlainJobs.{PlainFilterJob}
+use Rattle.cli_tool_words.specs.PlainJobs.{PlainFilterJob}
 
 -- whether each hunk of a file patch is kept, in their order; the file patch is counted from 0
 abbrev pub flags : PlainFilterJob → ℕ → PlainPatch → List Bool

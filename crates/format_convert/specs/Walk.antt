@@ -5,19 +5,19 @@ use Rattle.hunk_core.specs.declared.Hunk.{Hunk}
 use Rattle.hunk_core.specs.declared.Side.TheVariants.{Forward, Reversed}
 use Rattle.hunk_core.specs.PlainHunk.{PlainHunk, bytes_at, body_of, hunk_of, hunks_of, old_lines}
 use Rattle.hunk_core.specs.Turned.{LiesIn, base}
-use Rattle.file_patch.specs.declared.Change.{Change}
-use Rattle.file_patch.specs.declared.Change.TheVariants.{Hunks, Script}
-use Rattle.file_patch.specs.PlainPatch.{AreLawfulHunks, hunks, change_of, patch_of, row_count}
+use Rattle.read_file_patch.specs.declared.Change.{Change}
+use Rattle.read_file_patch.specs.declared.Change.TheVariants.{Hunks, Script}
+use Rattle.read_file_patch.specs.PlainPatch.{AreLawfulHunks, hunks, change_of, patch_of, row_count}
 use Rattle.patch_set.specs.SetView.{patch_at}
-use Rattle.tool_words.specs.PlainJobs.{plain_filter_job}
+use Rattle.cli_tool_words.specs.PlainJobs.{plain_filter_job}
 use Rattle.format_convert.specs.Taken.{flags, hunk_if, kept_hunks}
 use Rattle.format_convert.specs.Blocks.{Edit, blocks_of, body_edits}
 use Rattle.format_convert.specs.Fronts.{front, front_block, front_rest}
 use Rattle.format_convert.specs.declared.kept.Kept.{Kept}
 use Rattle.format_convert.specs.declared.place.LineEdit.{LineEdit}
-use Rattle.format_convert.specs.declared.place.Place.{Place}
+use Rattle.format_convert.specs.declared.place.EditCursor.{EditCursor}
 use Rattle.format_convert.specs.declared.place.Step.{Step}
-use Rattle.format_convert.specs.declared.place.Found.{Found}
+use Rattle.format_convert.specs.declared.place.FoundEdit.{FoundEdit}
 use Rattle.format_convert.specs.declared.block.Block.{Block as Size}
 use Rattle.format_convert.specs.declared.normal.Net.{Net}
 
@@ -54,7 +54,7 @@ left_from text line next (row ∷ rows) = body_edits next (body_of text (drop li
 abbrev pub left_at : List ℕ → List (Bool × Hunk) → ℕ → ℕ → ℕ → List Edit
 left_at text rows hunk line next = left_from text line next (drop hunk rows)
 
-abbrev pub edits_left : Kept → Place → List Edit
+abbrev pub edits_left : Kept → EditCursor → List Edit
 edits_left k p = left_at k.set.now.text (pairs k) p.hunk p.line p.next
 
 -- the edits of the first of some hunks, where it is kept
@@ -104,27 +104,27 @@ pub record Lies (text : List ℕ) (e : LineEdit) : Type 0 where
   pub lies : LiesIn text e.span
 
 -- how far a walk over so many hunks can go on at most
-abbrev pub way_of : ℕ → Place → ℕ
+abbrev pub way_of : ℕ → EditCursor → ℕ
 way_of count p = (count - p.hunk) * 2 ^ 66 + (2 ^ 64 - p.line)
 
 -- a step leads on: its edit and what is left behind it are what was left
-pub record IsStep (k : Kept) (p : Place) (s : Step) : Type 0 where
+pub record IsStep (k : Kept) (p : EditCursor) (s : Step) : Type 0 where
   pub left : edits_left k p ≡ step_edit k.set.now.text s.edit ++ edits_left k s.behind
   pub shorter : way_of (length k.hunks.now) s.behind < way_of (length k.hunks.now) p
   pub lies : IfSome s.edit (Lies k.set.now.text)
 
 -- the next edit, and what is left behind it
-pub record IsFound (k : Kept) (p : Place) (f : Found) : Type 0 where
+pub record IsFound (k : Kept) (p : EditCursor) (f : FoundEdit) : Type 0 where
   pub left : edits_left k p ≡ edit_at k.set.now.text f.edit ∷ edits_left k f.behind
   pub lies : Lies k.set.now.text f.edit
 
 -- the next edit, which stands in this gap or is of the line behind it
-pub record IsFoundIn (k : Kept) (p : Place) (gap : ℕ) (f : Found) : Type 0 where
+pub record IsFoundIn (k : Kept) (p : EditCursor) (gap : ℕ) (f : FoundEdit) : Type 0 where
   pub found : IsFound k p f
   pub here : f.edit.at ≡ gap
 
 -- how large the block is that begins in this gap
-pub record IsBlock (k : Kept) (p : Place) (gap : ℕ) (b : Size) : Type 0 where
+pub record IsBlock (k : Kept) (p : EditCursor) (gap : ℕ) (b : Size) : Type 0 where
   pub first : b.first ≡ gap
   pub drops : b.drops ≡ length (front Forward gap (edits_left k p))
   pub adds : b.adds ≡ length (front Reversed gap (edits_left k p))
@@ -133,7 +133,7 @@ pub record IsBlock (k : Kept) (p : Place) (gap : ℕ) (b : Size) : Type 0 where
   pub near : b.first ≤ 2 ^ 43
 
 -- the next block: it is the first one of those that are left
-pub record IsNextBlock (k : Kept) (p : Place) (b : Size) : Type 0 where
+pub record IsNextBlock (k : Kept) (p : EditCursor) (b : Size) : Type 0 where
   pub size : IsBlock k p b.first b
   pub left : blocks_of (edits_left k p) ≡ front_block b.first (edits_left k p) ∷ blocks_of (edits_left k b.behind)
   pub shorter : length (edits_left k b.behind) < length (edits_left k p)

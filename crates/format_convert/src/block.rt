@@ -7,7 +7,7 @@ ghost use Rattle.format_convert.specs.Walk.{IsFoundIn, IsKept, IsNextBlock, edit
 
 use crate::edits::next_edit;
 use crate::kept::Kept;
-use crate::place::{Found, LineEdit, Place};
+use crate::place::{EditCursor, FoundEdit, LineEdit};
 
 /// How large a block is, and what stands behind it.
 #[derive(Clone, Copy)]
@@ -16,7 +16,7 @@ pub struct Block {
     /// How many lines it drops, and adds.
     pub drops: u64,
     pub adds: u64,
-    pub behind: Place,
+    pub behind: EditCursor,
 }
 
 /// The gap behind an edit.
@@ -28,7 +28,7 @@ pub fn gap_behind(edit: LineEdit) -> u64
 }
 
 /// The next edit, if it stands in this gap or is of the line behind it.
-pub fn edit_in(kept: Kept, place: Place, gap: u64) -> Option<Found>
+pub fn edit_in(kept: Kept, place: EditCursor, gap: u64) -> Option<FoundEdit>
     requires { IsKept kept }
     ensures { MatchOption result (begins_at gap (edits_left kept.entry place) ≡ false) (IsFoundIn kept.entry place gap) }
 {
@@ -40,7 +40,7 @@ pub fn edit_in(kept: Kept, place: Place, gap: u64) -> Option<Found>
     }
 }
 
-fn with_edit(block: Block, found: Found) -> Block
+fn with_edit(block: Block, found: FoundEdit) -> Block
     requires drops { block.drops < 2 ^ 40 }
     requires adds { block.adds < 2 ^ 40 }
     ensures first { result.first ≡ block.first }
@@ -66,7 +66,7 @@ fn with_edit(block: Block, found: Found) -> Block
 }
 
 /// The next block, unless no edit is left.
-pub fn next_block(kept: Kept, place: Place) -> Option<Block>
+pub fn next_block(kept: Kept, place: EditCursor) -> Option<Block>
     requires { IsKept kept }
     ensures { MatchOption result (edits_left kept.entry place ≡ []) (IsNextBlock kept.entry place) }
 {

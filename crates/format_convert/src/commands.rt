@@ -4,10 +4,10 @@ ghost use Rattle.std.specs.Prelude.{◌≡◌, ◌<◌, Some, List, length, not,
 ghost use Rattle.std.specs.Option.{ForSome};
 ghost use Rattle.hunk_core.specs.PlainHunk.{hunks_of};
 ghost use Rattle.outside.specs.Puts.{Puts};
-ghost use Rattle.file_patch.specs.PlainPatch.{change_of, hunks, patch_of};
-ghost use Rattle.file_patch.specs.declared.Change.TheVariants.{Hunks as HunksOf};
+ghost use Rattle.read_file_patch.specs.PlainPatch.{change_of, hunks, patch_of};
+ghost use Rattle.read_file_patch.specs.declared.Change.TheVariants.{Hunks as HunksOf};
 ghost use Rattle.patch_set.specs.SetView.{patch_at};
-ghost use Rattle.tool_words.specs.PlainJobs.{plain_filter_job};
+ghost use Rattle.cli_tool_words.specs.PlainJobs.{plain_filter_job};
 ghost use Rattle.format_convert.specs.Blocks.{blocks_in};
 ghost use Rattle.format_convert.specs.Commands.{command_text};
 ghost use Rattle.format_convert.specs.Fitting.{is_unfit};
@@ -20,12 +20,12 @@ use crate::fitting::are_unfit;
 use crate::kept::Kept;
 use crate::normal::put_normal;
 use crate::script::{changes, put_script};
-use file_patch::Change;
+use cli_tool_words::FilterJob;
 use filter_choice::patch_at;
 use hunk_core::{Form, Hunk};
 use outside::{Failed, Sink};
 use patch_set::PatchSet;
-use tool_words::FilterJob;
+use read_file_patch::Change;
 
 fn kept_of<'a>(set: &'a PatchSet, job: &'a FilterJob, patch: u32, hunks: &'a [Hunk]) -> Kept<'a>
     requires within { patch < length set.now.patches }

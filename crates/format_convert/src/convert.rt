@@ -1,7 +1,7 @@
 //! A set written in another form.
 
 ghost use Rattle.patch_set.specs.SetView.{plain_patches};
-ghost use Rattle.tool_words.specs.PlainJobs.{plain_filter_job};
+ghost use Rattle.cli_tool_words.specs.PlainJobs.{plain_filter_job};
 ghost use Rattle.format_convert.specs.Taken.{left_patches};
 ghost use Rattle.format_convert.specs.Refusals.{refusal};
 ghost use Rattle.format_convert.specs.Converted.{Converts, converted};
@@ -9,10 +9,10 @@ ghost use Rattle.format_convert.specs.Converted.{Converts, converted};
 use crate::fault::ConvertFault;
 use crate::refusing::refusal;
 use crate::writing::put_converted;
+use cli_tool_words::FilterJob;
 use hunk_core::Form;
 use outside::{Failed, Sink};
 use patch_set::PatchSet;
-use tool_words::FilterJob;
 
 /// Writes each file patch of which a hunk is kept in this form: its header lines, and its kept hunks in their canonical
 /// texts, or a command for each block of lines that they drop and add. It is refused where a file patch lacks what the form

@@ -17,7 +17,7 @@ use crate::edits::hunk_start;
 use crate::kept::{Kept, is_kept};
 use crate::lines::{line_at, put_both};
 use crate::numbers::{action_for, add_letter, add_span, range_start};
-use crate::place::{LineEdit, Place};
+use crate::place::{EditCursor, LineEdit};
 use arrayvec::ArrayVec;
 use hunk_core::{Hunk, Mark, Side, after_prefix, ends_here, is_taken};
 use outside::{Failed, Sink};
@@ -92,7 +92,12 @@ fn left_behind(edit: LineEdit, left: u64) -> u64
 }
 
 /// The lines that a block adds.
-fn put_added<O: Sink>(kept: Kept, place: Place, block: Block, out: &mut O) -> Result<(), Failed>
+fn put_added<O: Sink>(
+    kept: Kept,
+    place: EditCursor,
+    block: Block,
+    out: &mut O,
+) -> Result<(), Failed>
     requires kept { IsKept kept }
     requires block { IsBlock kept place block.first block }
     ensures { Puts O.view O.same_rest out.old out.new result (ed_lines (front Side.Reversed block.first (edits_left kept.entry place))) }
@@ -111,7 +116,7 @@ fn put_added<O: Sink>(kept: Kept, place: Place, block: Block, out: &mut O) -> Re
 }
 
 /// The first block behind a place, if there is one.
-fn put_next<O: Sink>(kept: Kept, place: Place, out: &mut O) -> Result<(), Failed>
+fn put_next<O: Sink>(kept: Kept, place: EditCursor, out: &mut O) -> Result<(), Failed>
     requires { IsKept kept }
     ensures { Puts O.view O.same_rest out.old out.new result (first_text (blocks_of (edits_left kept.entry place))) }
 {
@@ -128,12 +133,12 @@ fn put_next<O: Sink>(kept: Kept, place: Place, out: &mut O) -> Result<(), Failed
 /// line closes the first block behind `front`, which is written, unless it belongs to that one.
 fn put_behind<O: Sink>(
     kept: Kept,
-    front: Place,
-    place: Place,
+    front: EditCursor,
+    place: EditCursor,
     mark: Mark,
     next: u64,
     out: &mut O,
-) -> Result<Place, Failed>
+) -> Result<EditCursor, Failed>
     requires { IsKept kept }
     ensures put { Puts O.view O.same_rest out.old out.new result (closing_if mark next (edits_left kept.entry front)) }
     ensures place { IfOk result (λ p. p ≡ (if is_keep mark then front else place)) }
@@ -165,11 +170,11 @@ fn next_before(mark: Mark, next: u64) -> u64
 /// Goes back over the body of a kept hunk: the blocks are written that nothing in front can belong to.
 fn put_body<O: Sink>(
     kept: Kept,
-    front: Place,
+    front: EditCursor,
     hunk: usize,
     own: &Hunk,
     out: &mut O,
-) -> Result<Place, Failed>
+) -> Result<EditCursor, Failed>
     requires kept { IsKept kept }
     requires within { hunk < length kept.hunks.now }
     requires own { own.now ≡ get_or kept.hunks.now hunk own.now }
@@ -181,7 +186,7 @@ fn put_body<O: Sink>(
     let mut next = own.base(Side::Forward) + u64::from(own.count(Side::Forward));
     for line in (0..own.body.len()).rev() {
         let mark = own.body[line].mark;
-        let place = Place {
+        let place = EditCursor {
             hunk,
             line,
             next: next_before(mark, next),
@@ -193,7 +198,12 @@ fn put_body<O: Sink>(
 }
 
 /// Goes back over a hunk, if it is kept.
-fn put_if_kept<O: Sink>(kept: Kept, front: Place, hunk: usize, out: &mut O) -> Result<Place, Failed>
+fn put_if_kept<O: Sink>(
+    kept: Kept,
+    front: EditCursor,
+    hunk: usize,
+    out: &mut O,
+) -> Result<EditCursor, Failed>
     requires kept { IsKept kept }
     requires within { hunk < length kept.hunks.now }
     requires front { StandsBehind kept (hunk + 1) front }

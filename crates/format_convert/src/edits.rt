@@ -9,30 +9,30 @@ ghost use Rattle.format_convert.specs.Blocks.{Edit, marked_edits};
 ghost use Rattle.format_convert.specs.Walk.{IsFound, IsKept, IsStep, Lies, edits_left, edits_of, pairs, step_edit};
 
 use crate::kept::{Kept, is_kept};
-use crate::place::{Found, LineEdit, Place, Step};
+use crate::place::{EditCursor, FoundEdit, LineEdit, Step};
 use hunk_core::{HunkLine, Mark, Side};
 
 /// The place in front of a hunk's first line, or behind its last one where the hunk isn't kept.
-pub fn hunk_start(kept: Kept, hunk: usize) -> Place
+pub fn hunk_start(kept: Kept, hunk: usize) -> EditCursor
     requires { IsKept kept }
     ensures left { edits_left kept.entry result ≡ edits_of kept.entry.set.now.text (drop hunk (pairs kept.entry)) }
     ensures hunk { result.hunk ≡ hunk }
 {
     if hunk >= kept.hunks.len() {
-        return Place {
+        return EditCursor {
             hunk,
             line: 0,
             next: 1,
         };
     }
     if is_kept(kept, hunk) {
-        return Place {
+        return EditCursor {
             hunk,
             line: 0,
             next: kept.hunks[hunk].base(Side::Forward),
         };
     }
-    Place {
+    EditCursor {
         hunk,
         line: kept.hunks[hunk].body.len(),
         next: 1,
@@ -40,7 +40,7 @@ pub fn hunk_start(kept: Kept, hunk: usize) -> Place
 }
 
 /// The next step, unless none is left.
-fn step(kept: Kept, place: Place) -> Option<Step>
+fn step(kept: Kept, place: EditCursor) -> Option<Step>
     requires { IsKept kept }
     ensures { MatchOption result (edits_left kept.entry place ≡ []) (IsStep kept.entry place) }
 {
@@ -58,7 +58,7 @@ fn step(kept: Kept, place: Place) -> Option<Step>
 }
 
 /// The step over a line of a body.
-fn line_step(line: HunkLine, place: Place) -> Step
+fn line_step(line: HunkLine, place: EditCursor) -> Step
     requires { place.line < 2 ^ 32 }
     ensures edit { (text : List ℕ) → (rest : List Edit) → marked_edits line.mark place.next (bytes_at text line.span) (λ _. rest) ≡ step_edit text result.edit ++ rest }
     ensures hunk { result.behind.hunk ≡ place.hunk }
@@ -69,7 +69,7 @@ fn line_step(line: HunkLine, place: Place) -> Step
     match line.mark {
         Mark::Keep => Step {
             edit: None,
-            behind: Place {
+            behind: EditCursor {
                 hunk: place.hunk,
                 line: place.line + 1,
                 next: place.next + 1,
@@ -81,7 +81,7 @@ fn line_step(line: HunkLine, place: Place) -> Step
                 adds: false,
                 span: line.span,
             }),
-            behind: Place {
+            behind: EditCursor {
                 hunk: place.hunk,
                 line: place.line + 1,
                 next: place.next + 1,
@@ -93,7 +93,7 @@ fn line_step(line: HunkLine, place: Place) -> Step
                 adds: true,
                 span: line.span,
             }),
-            behind: Place {
+            behind: EditCursor {
                 hunk: place.hunk,
                 line: place.line + 1,
                 next: place.next,
@@ -103,14 +103,14 @@ fn line_step(line: HunkLine, place: Place) -> Step
 }
 
 /// The next edit, unless none is left.
-pub fn next_edit(kept: Kept, place: Place) -> Option<Found>
+pub fn next_edit(kept: Kept, place: EditCursor) -> Option<FoundEdit>
     requires { IsKept kept }
     ensures { MatchOption result (edits_left kept.entry place ≡ []) (IsFound kept.entry place) }
 {
     let mut at = place;
     while let Some(next) = step(kept, at) {
         if let Some(edit) = next.edit {
-            return Some(Found {
+            return Some(FoundEdit {
                 edit,
                 behind: next.behind,
             });

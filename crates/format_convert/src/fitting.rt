@@ -4,7 +4,7 @@ ghost use Rattle.std.specs.Prelude.{◌≡◌, ◌+◌, ◌≤◌, ◌^◌, ◌|
 ghost use Rattle.hunk_core.specs.PlainHunk.{body_of, bytes_at, marked_of};
 ghost use Rattle.hunk_core.specs.Rules.{lacks_inner_end};
 ghost use Rattle.hunk_core.specs.Turned.{IsLawful, LiesIn};
-ghost use Rattle.file_patch.specs.PlainPatch.{hunks};
+ghost use Rattle.read_file_patch.specs.PlainPatch.{hunks};
 ghost use Rattle.hunk_core.specs.Rules.{is_too_large};
 ghost use Rattle.format_convert.specs.Blocks.{blocks_of, hunk_edits};
 ghost use Rattle.format_convert.specs.Commands.{range_start};
@@ -64,7 +64,7 @@ fn falls_back(kept: Kept) -> bool
 
 /// What was seen of the lines that hunks drop, or of those that they add.
 #[derive(Clone, Copy)]
-struct Seen {
+struct OpenEnds {
     /// The last one has no line feed.
     open_end: bool,
     /// One that isn't the last has none.
@@ -82,17 +82,17 @@ fn is_own(mark: Mark, side: Side) -> bool
 }
 
 /// One line more.
-fn seen_one(seen: Seen, is_open: bool) -> Seen
+fn seen_one(seen: OpenEnds, is_open: bool) -> OpenEnds
     ensures end { result.open_end ≡ is_open }
     ensures inside { result.open_inside ≡ (seen.open_inside || seen.open_end) }
 {
-    Seen {
+    OpenEnds {
         open_end: is_open,
         open_inside: seen.open_inside || seen.open_end,
     }
 }
 
-fn seen_line(seen: Seen, text: &[u8], line: HunkLine, side: Side) -> Seen
+fn seen_line(seen: OpenEnds, text: &[u8], line: HunkLine, side: Side) -> OpenEnds
     requires { LiesIn text.now line.span }
     ensures { (before : List (List ℕ)) → Sees seen before → Sees result (before ++ own_lines side (marked_of text.now line ∷ [])) }
 {
@@ -102,7 +102,7 @@ fn seen_line(seen: Seen, text: &[u8], line: HunkLine, side: Side) -> Seen
     seen_one(seen, !has_feed(line_at(text, line.span)))
 }
 
-fn seen_hunk(seen: Seen, text: &[u8], hunk: &Hunk, side: Side) -> Seen
+fn seen_hunk(seen: OpenEnds, text: &[u8], hunk: &Hunk, side: Side) -> OpenEnds
     requires { IsLawful text.now hunk.now }
     ensures { (before : List (List ℕ)) → Sees seen before → Sees result (before ++ own_lines side (body_of text.now hunk.now.body.items)) }
 {
@@ -113,7 +113,7 @@ fn seen_hunk(seen: Seen, text: &[u8], hunk: &Hunk, side: Side) -> Seen
     seen
 }
 
-fn seen_if_kept(seen: Seen, kept: Kept, hunk: usize, side: Side) -> Seen
+fn seen_if_kept(seen: OpenEnds, kept: Kept, hunk: usize, side: Side) -> OpenEnds
     requires kept { IsKept kept }
     requires within { hunk < length kept.hunks.now }
     ensures { (before : List (List ℕ)) → Sees seen before → Sees result (before ++ changed_lines side (hunk_at kept.entry hunk)) }
@@ -125,11 +125,11 @@ fn seen_if_kept(seen: Seen, kept: Kept, hunk: usize, side: Side) -> Seen
 }
 
 /// The lines of this side that the kept hunks change.
-fn seen_in(kept: Kept, side: Side) -> Seen
+fn seen_in(kept: Kept, side: Side) -> OpenEnds
     requires { IsKept kept }
     ensures { Sees result (changed_lines side (left_hunks kept.entry)) }
 {
-    let mut seen = Seen {
+    let mut seen = OpenEnds {
         open_end: false,
         open_inside: false,
     };
@@ -149,7 +149,7 @@ fn has_open_line(kept: Kept, form: Form) -> bool
 }
 
 /// Whether a line lacks its line feed where it can't: one that isn't the last, or an added one that would go to an ed script.
-fn either_open(adds: Seen, drops: Seen, to_script: bool) -> bool
+fn either_open(adds: OpenEnds, drops: OpenEnds, to_script: bool) -> bool
     ensures { result ≡ ((to_script && adds.open_end) || (drops.open_inside || adds.open_inside)) }
 {
     (to_script && adds.open_end) || (drops.open_inside || adds.open_inside)

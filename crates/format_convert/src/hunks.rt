@@ -3,12 +3,12 @@
 ghost use Rattle.std.specs.Prelude.{◌≡◌, ◌<◌, [], length, slice_index_or, if◌then◌else◌};
 ghost use Rattle.std.specs.Option.{ForSome};
 ghost use Rattle.patch_set.specs.SetView.{patch_at};
-ghost use Rattle.tool_words.specs.PlainJobs.{plain_filter_job};
+ghost use Rattle.cli_tool_words.specs.PlainJobs.{plain_filter_job};
 ghost use Rattle.std.specs.List.{flat_map, range_with_len, zip};
 ghost use Rattle.hunk_core.specs.PlainHunk.{hunk_of, hunks_of};
 ghost use Rattle.hunk_core.specs.Turned.{IsLawful};
 ghost use Rattle.outside.specs.Puts.{Puts};
-ghost use Rattle.file_patch.specs.PlainPatch.{AreLawfulHunks, patch_of, row_count};
+ghost use Rattle.read_file_patch.specs.PlainPatch.{AreLawfulHunks, patch_of, row_count};
 ghost use Rattle.filter_choice.specs.Kept.{keeps};
 ghost use Rattle.format_convert.specs.Taken.{flags};
 ghost use Rattle.format_convert.specs.Walk.{IsHunks};
@@ -17,12 +17,12 @@ ghost use Rattle.format_convert.specs.Converted.{hunk_texts, kept_pieces, pieces
 
 use crate::behind::behind_in;
 use crate::lines::line_at;
-use file_patch::{Change, FilePatch};
+use cli_tool_words::FilterJob;
 use filter_choice::{keeps, patch_at};
 use hunk_core::{Form, Hunk};
 use outside::{Failed, Sink};
 use patch_set::PatchSet;
-use tool_words::FilterJob;
+use read_file_patch::{Change, FilePatch};
 
 /// What stands behind the ranges of a hunk of a file patch, both counted from 0.
 fn behind_of(set: &PatchSet, patch: u32, number: u32) -> &[u8]

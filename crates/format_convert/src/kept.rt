@@ -2,17 +2,17 @@
 
 ghost use Rattle.std.specs.Prelude.{◌≡◌, ◌<◌, false, length, slice_index_or};
 ghost use Rattle.std.specs.Option.{ForSome};
-ghost use Rattle.file_patch.specs.PlainPatch.{patch_of};
+ghost use Rattle.read_file_patch.specs.PlainPatch.{patch_of};
 ghost use Rattle.patch_set.specs.SetView.{patch_at};
-ghost use Rattle.tool_words.specs.PlainJobs.{plain_filter_job};
+ghost use Rattle.cli_tool_words.specs.PlainJobs.{plain_filter_job};
 ghost use Rattle.format_convert.specs.Taken.{has_kept};
 ghost use Rattle.format_convert.specs.Walk.{IsKept, kept_flags};
 
-use file_patch::FilePatch;
+use cli_tool_words::FilterJob;
 use filter_choice::{keeps, patch_at};
 use hunk_core::Hunk;
 use patch_set::PatchSet;
-use tool_words::FilterJob;
+use read_file_patch::FilePatch;
 
 /// The hunks of a file patch, and the job that says which of them are kept.
 #[derive(Clone, Copy)]

@@ -14,7 +14,7 @@ ghost use Rattle.format_convert.specs.Walk.{IsKept, edit_at, edits_left};
 
 use crate::block::{edit_in, gap_behind};
 use crate::kept::Kept;
-use crate::place::{LineEdit, Place};
+use crate::place::{EditCursor, LineEdit};
 use hunk_core::{Side, has_feed};
 use line_list::Span;
 use outside::{Failed, Sink, put_all};
@@ -84,7 +84,7 @@ pub fn is_on(edit: LineEdit, side: Side) -> bool
 /// The lines of one side of the block that begins in this gap.
 pub fn put_side<O: Sink>(
     kept: Kept,
-    place: Place,
+    place: EditCursor,
     first: u64,
     side: Side,
     out: &mut O,

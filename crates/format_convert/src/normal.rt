@@ -15,7 +15,7 @@ use crate::edits::hunk_start;
 use crate::kept::Kept;
 use crate::lines::{put_both, put_piece, put_side};
 use crate::numbers::{Command, action_for, add_letter, add_span, range_start};
-use crate::place::Place;
+use crate::place::EditCursor;
 use arrayvec::ArrayVec;
 use hunk_core::{Action, Side};
 use outside::{Failed, Sink};
@@ -96,7 +96,7 @@ fn put_head<O: Sink>(net: Net, block: Block, out: &mut O) -> Result<(), Failed>
 /// The command of a block with its lines.
 fn put_block<O: Sink>(
     kept: Kept,
-    place: Place,
+    place: EditCursor,
     net: Net,
     block: Block,
     out: &mut O,

@@ -14,7 +14,7 @@ pub struct LineEdit {
 
 /// Where a walk has come to.
 #[derive(Clone, Copy)]
-pub struct Place {
+pub struct EditCursor {
     pub hunk: usize,
     /// The line of the hunk's body.
     pub line: usize,
@@ -27,12 +27,12 @@ pub struct Place {
 #[derive(Clone, Copy)]
 pub struct Step {
     pub edit: Option<LineEdit>,
-    pub behind: Place,
+    pub behind: EditCursor,
 }
 
 /// An edit, and the place behind it.
 #[derive(Clone, Copy)]
-pub struct Found {
+pub struct FoundEdit {
     pub edit: LineEdit,
-    pub behind: Place,
+    pub behind: EditCursor,
 }

@@ -3,19 +3,19 @@
 ghost use Rattle.std.specs.Prelude.{◌≡◌, ◌<◌, ◌&&◌, ℕ, List, length};
 ghost use Rattle.std.specs.Option.{ForSome};
 ghost use Rattle.patch_set.specs.SetView.{patch_at, plain_patches};
-ghost use Rattle.tool_words.specs.PlainJobs.{plain_filter_job};
-ghost use Rattle.file_patch.specs.PlainPatch.{patch_of, first_opening};
+ghost use Rattle.cli_tool_words.specs.PlainJobs.{plain_filter_job};
+ghost use Rattle.read_file_patch.specs.PlainPatch.{patch_of, first_opening};
 ghost use Rattle.format_convert.specs.Taken.{has_kept, left_patch, left_patches};
 ghost use Rattle.format_convert.specs.Refusals.{is_unfit, lacks_context, refusal};
 
 use crate::fault::ConvertFault;
 use crate::forms::{is_ed, is_normal, shows_context};
 use crate::{has_kept, is_unfit};
-use file_patch::{Change, FilePatch};
+use cli_tool_words::FilterJob;
 use filter_choice::patch_at;
 use hunk_core::Form;
 use patch_set::PatchSet;
-use tool_words::FilterJob;
+use read_file_patch::{Change, FilePatch};
 
 /// Whether a file patch lacks what the form shows.
 fn lacks_context(patch: &FilePatch, form: Form) -> bool

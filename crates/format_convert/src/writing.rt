@@ -3,20 +3,20 @@
 ghost use Rattle.std.specs.Prelude.{◌≡◌, ◌<◌, length};
 ghost use Rattle.std.specs.Option.{ForSome};
 ghost use Rattle.patch_set.specs.SetView.{patch_at};
-ghost use Rattle.tool_words.specs.PlainJobs.{plain_filter_job};
+ghost use Rattle.cli_tool_words.specs.PlainJobs.{plain_filter_job};
 ghost use Rattle.outside.specs.Puts.{Puts};
-ghost use Rattle.file_patch.specs.PlainPatch.{patch_of};
+ghost use Rattle.read_file_patch.specs.PlainPatch.{patch_of};
 ghost use Rattle.format_convert.specs.Taken.{left_patch};
 ghost use Rattle.format_convert.specs.Converted.{converted, is_written, written_if};
 
 use crate::forms::shows_context;
 use crate::hunks::put_hunks;
 use crate::{has_blocks, has_kept, put_commands};
+use cli_tool_words::FilterJob;
 use flip_patch::put_header_lines;
 use hunk_core::{Form, Side};
 use outside::{Failed, Sink};
 use patch_set::PatchSet;
-use tool_words::FilterJob;
 
 /// Whether anything is written of a file patch of which a hunk is kept.
 fn is_written(set: &PatchSet, job: &FilterJob, patch: u32, form: Form) -> bool

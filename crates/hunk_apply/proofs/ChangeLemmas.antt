@@ -8,7 +8,7 @@ use Rattle.hunk_core.specs.Turned.{turned}
 use Rattle.hunk_place.specs.Taken.{taken}
 use Rattle.hunk_place.specs.Verdicts.{verdicts, at_start}
 use Rattle.ed_form.specs.PlainEdit.{PlainEdit}
-use Rattle.file_patch.specs.PlainPatch.{PlainChange, hunks, script}
+use Rattle.read_file_patch.specs.PlainPatch.{PlainChange, hunks, script}
 use Rattle.hunk_apply.specs.Applied.{taken_all, applied}
 use Rattle.hunk_apply.specs.Script.{script_lines}
 use Rattle.hunk_apply.specs.Change.{change_output, change_verdicts}

@@ -5,7 +5,7 @@ use Rattle.hunk_core.specs.declared.Side.{Side}
 use Rattle.hunk_core.specs.declared.Verdict.{Verdict}
 use Rattle.hunk_core.specs.Turned.{turned}
 use Rattle.hunk_place.specs.Verdicts.{verdicts, at_start}
-use Rattle.file_patch.specs.PlainPatch.{PlainChange, hunks, script}
+use Rattle.read_file_patch.specs.PlainPatch.{PlainChange, hunks, script}
 use Rattle.hunk_apply.specs.Applied.{applied}
 use Rattle.hunk_apply.specs.Script.{script_lines, script_verdict}
 

@@ -4,7 +4,7 @@ use Rattle.std.specs.List.{All, sum_by}
 use Rattle.hunk_core.specs.declared.Hunk.{Hunk}
 use Rattle.hunk_core.specs.declared.Verdict.{Verdict}
 use Rattle.hunk_core.specs.declared.Verdict.TheVariants.{Untried, Ignored, Nowhere, At}
-pub use Rattle.file_patch.specs.Absent.{is_zero}
+pub use Rattle.read_file_patch.specs.Absent.{is_zero}
 
 abbrev pub is_placed : Verdict → Bool
 is_placed Untried = false

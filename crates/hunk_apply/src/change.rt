@@ -4,7 +4,7 @@ ghost use Rattle.std.specs.Prelude.{◌≡◌, ℕ, List, length, count_by, Some
 ghost use Rattle.std.specs.List.{All, list_any};
 ghost use Rattle.line_store.specs.Store.{Keeps};
 ghost use Rattle.outside.specs.SinkView.{SinkPasses, Receives, ReceivesPart};
-ghost use Rattle.file_patch.specs.PlainPatch.{IsLawfulChange, change_of, row_count};
+ghost use Rattle.read_file_patch.specs.PlainPatch.{IsLawfulChange, change_of, row_count};
 ghost use Rattle.hunk_apply.specs.Change.{change_output, change_verdicts};
 ghost use Rattle.hunk_apply.specs.Written.{is_nothing};
 ghost use Rattle.hunk_apply.specs.Session.{is_placed, is_failed, is_inexact, IsTried, FillsFirst};
@@ -13,10 +13,10 @@ ghost use Rattle.hunk_apply.specs.Faults.{HasApplyCause};
 use crate::hunks::apply_each;
 use crate::script::apply_script;
 use crate::{ApplyFault, Session};
-use file_patch::{Change, FilePatch};
 use hunk_core::{Side, Verdict};
 use line_store::LineStore;
 use outside::Sink;
+use read_file_patch::{Change, FilePatch};
 
 /// Writes the store's lines with the change of a file patch applied, and says in a row for each hunk where it was
 /// placed. A script has one row; fuzz, side and loose comparing have no meaning for it. The store's lines are lent to

@@ -66,7 +66,7 @@ pub fn without_feed(line: HunkLine) -> HunkLine
 }
 
 /// The tests on a line, in the words of the diffutils manual.
-pub fn line_tests_in_words()
+pub fn line_tests_laws()
     ensures prefix { (prefix bytes rest : List ℕ) → after prefix bytes ≡ Some rest ↔ bytes ≡ prefix ++ rest }
     ensures backslash { (line : List ℕ) → is_backslash line ≡ true ↔ ((rest : List ℕ) × (line ≡ 92 ∷ 32 ∷ rest)) }
     ensures feed { (line : List ℕ) → ends_line line ≡ true ↔ ((front : List ℕ) × (line ≡ front ++ 10 ∷ [])) }

@@ -16,7 +16,7 @@ use Rattle.hunk_core.specs.Sides.{is_on_side}
 use Rattle.hunk_core.specs.Turned.{turned}
 use Rattle.hunk_place.specs.Order.{from_to}
 use Rattle.hunk_place.specs.Verdicts.{at_start}
-use Rattle.file_patch.specs.PlainPatch.{hunks, script}
+use Rattle.read_file_patch.specs.PlainPatch.{hunks, script}
 use Rattle.ed_form.specs.PlainEdit.{PlainEdit, AreLawful}
 use Rattle.hunk_core.specs.declared.Verdict.TheVariants.{Nowhere, At}
 use Rattle.hunk_apply.specs.Applied.{applied}

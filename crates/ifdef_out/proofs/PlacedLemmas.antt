@@ -10,9 +10,9 @@ use Rattle.hunk_place.specs.Verdicts.{verdicts, verdict_of, spots, spot, after_h
 use Rattle.hunk_place.specs.declared.PlaceState.{PlaceState}
 use Rattle.hunk_place.specs.declared.Spot.{Spot}
 use Rattle.ed_form.specs.PlainEdit.{PlainEdit, AreLawful, edits_of}
-use Rattle.file_patch.specs.PlainPatch.{script, IsLawfulChange, change_of}
-use Rattle.file_patch.specs.declared.Change.{Change}
-use Rattle.file_patch.specs.declared.Change.TheVariants.{Hunks, Script}
+use Rattle.read_file_patch.specs.PlainPatch.{script, IsLawfulChange, change_of}
+use Rattle.read_file_patch.specs.declared.Change.{Change}
+use Rattle.read_file_patch.specs.declared.Change.TheVariants.{Hunks, Script}
 use Rattle.hunk_apply.specs.Script.{reaches_behind, first_address, script_verdict}
 use Rattle.hunk_apply.specs.Splice.{hunk_edits, all_edits}
 use Rattle.hunk_apply.proofs.ChangeLemmas.{taken-is}

@@ -7,7 +7,7 @@ use Rattle.hunk_core.specs.PlainHunk.{PlainHunk}
 use Rattle.hunk_core.specs.Turned.{turned}
 use Rattle.hunk_place.specs.Order.{from_to}
 use Rattle.ed_form.specs.PlainEdit.{PlainEdit}
-use Rattle.file_patch.specs.PlainPatch.{PlainChange, hunks, script}
+use Rattle.read_file_patch.specs.PlainPatch.{PlainChange, hunks, script}
 use Rattle.hunk_apply.specs.Change.{change_verdicts}
 use Rattle.hunk_apply.specs.Splice.{Edit, add, drop_line, body_edits}
 

@@ -9,9 +9,9 @@ use Rattle.hunk_core.specs.Turned.{LiesIn}
 use Rattle.hunk_place.specs.Order.{from_to}
 use Rattle.ed_form.specs.declared.script.EdEdit.{EdEdit}
 use Rattle.ed_form.specs.PlainEdit.{edits_of, lines_of}
-use Rattle.file_patch.specs.PlainPatch.{IsLawfulChange, change_of, row_count}
-use Rattle.file_patch.specs.declared.Change.{Change}
-use Rattle.file_patch.specs.declared.Change.TheVariants.{Hunks, Script}
+use Rattle.read_file_patch.specs.PlainPatch.{IsLawfulChange, change_of, row_count}
+use Rattle.read_file_patch.specs.declared.Change.{Change}
+use Rattle.read_file_patch.specs.declared.Change.TheVariants.{Hunks, Script}
 use Rattle.hunk_apply.specs.Applied.{taken_all}
 use Rattle.hunk_apply.specs.Body.{side_body}
 use Rattle.hunk_apply.specs.Session.{IsTried}
@@ -19,11 +19,11 @@ use Rattle.hunk_apply.specs.Written.{lines_between}
 use Rattle.hunk_apply.specs.Splice.{Edit, add, drop_line, body_edits}
 use Rattle.ifdef_out.specs.Placed.{placed_edits, command_edits, change_edits}
 use Rattle.ifdef_out.specs.Chain.{block_end, block_added, behind_block, is_some_line}
-use Rattle.ifdef_out.specs.declared.place.Place.{Place}
+use Rattle.ifdef_out.specs.declared.place.ChangeCursor.{ChangeCursor}
 use Rattle.ifdef_out.specs.declared.place.LineEdit.{LineEdit}
 use Rattle.ifdef_out.specs.declared.place.Step.{Step}
 use Rattle.ifdef_out.specs.declared.edits.Edits.{Edits}
-use Rattle.ifdef_out.specs.declared.found.Found.{Found}
+use Rattle.ifdef_out.specs.declared.found.FoundChange.{FoundChange}
 use Rattle.ifdef_out.specs.declared.block.Block.{Block}
 
 -- what an edit stands for over a text
@@ -60,7 +60,7 @@ abbrev pub left_of : List ℕ → Side → List Verdict → Change → ℕ → �
 left_of text side vs (Hunks hs) row line next = hunks_at text side vs hs.items row line next
 left_of text side vs (Script s) row line next = script_at text s.edits.items row line next
 
-abbrev pub edits_left : Edits → Place → List Edit
+abbrev pub edits_left : Edits → ChangeCursor → List Edit
 edits_left e p = left_of e.text.now e.side e.verdicts.now e.change.now p.row p.line p.next
 
 -- all edits of the change
@@ -68,7 +68,7 @@ abbrev pub all_of : Edits → List Edit
 all_of e = change_edits e.verdicts.now e.side (change_of e.text.now e.change.now)
 
 -- how far a walk over so many hunks or commands can go on at most
-abbrev pub way_of : ℕ → Place → ℕ
+abbrev pub way_of : ℕ → ChangeCursor → ℕ
 way_of count p = (count - p.row) * 2 ^ 66 + (2 ^ 64 - p.line) + (2 ^ 64 - p.next)
 
 abbrev pub row_total : Change → ℕ
@@ -76,18 +76,18 @@ row_total (Hunks hs) = length hs.items
 row_total (Script s) = length s.edits.items
 
 -- a step leads on: its edit and what is left behind it are what was left
-pub record IsStep (text : List ℕ) (rest_at : ℕ → ℕ → ℕ → List Edit) (count : ℕ) (p : Place) (s : Step) : Type 0 where
+pub record IsStep (text : List ℕ) (rest_at : ℕ → ℕ → ℕ → List Edit) (count : ℕ) (p : ChangeCursor) (s : Step) : Type 0 where
   pub left : rest_at p.row p.line p.next ≡ step_edit text s.edit ++ rest_at s.behind.row s.behind.line s.behind.next
   pub shorter : way_of count s.behind < way_of count p
   pub lies : IfSome s.edit (Lies text)
 
 -- the next edit, and what is left behind it
-pub record IsFound (e : Edits) (p : Place) (f : Found) : Type 0 where
+pub record IsFound (e : Edits) (p : ChangeCursor) (f : FoundChange) : Type 0 where
   pub left : edits_left e p ≡ edit_at e.text.now f.edit ∷ edits_left e f.behind
   pub lies : Lies e.text.now f.edit
 
 -- the block that begins at a line
-pub record IsBlock (e : Edits) (p : Place) (first : ℕ) (b : Block) : Type 0 where
+pub record IsBlock (e : Edits) (p : ChangeCursor) (first : ℕ) (b : Block) : Type 0 where
   pub end : b.end ≡ block_end first (edits_left e p)
   pub adding : b.is_adding ≡ is_some_line (block_added first (edits_left e p))
   pub behind : edits_left e b.behind ≡ behind_block first (edits_left e p)

@@ -4,7 +4,7 @@ use Rattle.line_list.specs.Join.{join, lacks_feed, feed_if}
 use Rattle.line_list.specs.Lines.{IsLine, IsOpenLine, lines as text_lines}
 use Rattle.line_list.specs.Completed.{completed}
 use Rattle.hunk_core.specs.declared.Side.{Side}
-use Rattle.file_patch.specs.PlainPatch.{PlainChange}
+use Rattle.read_file_patch.specs.PlainPatch.{PlainChange}
 use Rattle.hunk_apply.specs.Change.{change_verdicts}
 use Rattle.hunk_apply.specs.Splice.{Edit}
 use Rattle.ifdef_out.specs.Tagged.{ifdef_line, ifndef_line, else_line, endif_line, ifdef_text, new_of, tagged}

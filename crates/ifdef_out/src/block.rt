@@ -7,7 +7,7 @@ ghost use Rattle.ifdef_out.specs.Places.{AreEdits, IsBlock};
 
 use crate::edits::Edits;
 use crate::found::next_edit;
-use crate::place::{LineEdit, Place};
+use crate::place::{ChangeCursor, LineEdit};
 
 /// Where a block ends, and whether it adds a line.
 #[derive(Clone, Copy)]
@@ -15,11 +15,11 @@ pub struct Block {
     /// The first line of the file behind it.
     pub end: u64,
     pub is_adding: bool,
-    pub behind: Place,
+    pub behind: ChangeCursor,
 }
 
 /// The block that begins at line `first`.
-pub fn block_at(edits: Edits, place: Place, first: u64) -> Block
+pub fn block_at(edits: Edits, place: ChangeCursor, first: u64) -> Block
     requires { AreEdits edits }
     ensures { IsBlock edits.entry place first result }
 {

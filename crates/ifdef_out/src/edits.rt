@@ -3,15 +3,15 @@
 ghost use Rattle.std.specs.Prelude.{◌≡◌, ◌<◌, List, [], ◌∷◌, length, MatchOption, if◌then◌else◌};
 ghost use Rattle.hunk_core.specs.declared.Verdict.{Verdict};
 ghost use Rattle.hunk_apply.specs.Session.{is_placed};
-ghost use Rattle.file_patch.specs.PlainPatch.{change_of};
+ghost use Rattle.read_file_patch.specs.PlainPatch.{change_of};
 ghost use Rattle.ifdef_out.specs.Placed.{change_edits};
 ghost use Rattle.ifdef_out.specs.Places.{AreEdits, IsStep, edits_left, left_of, row_total};
 
 use crate::hunks::{hunk_start, hunk_step};
-use crate::place::{Place, Step};
+use crate::place::{ChangeCursor, Step};
 use crate::script::{script_start, script_step};
-use file_patch::Change;
 use hunk_core::{Side, Verdict};
+use read_file_patch::Change;
 
 /// A change as it is taken from a side, and where its hunks were placed.
 #[derive(Clone, Copy)]
@@ -23,7 +23,7 @@ pub struct Edits<'a> {
 }
 
 /// The place in front of all edits.
-pub fn start(edits: Edits) -> Place
+pub fn start(edits: Edits) -> ChangeCursor
     requires { AreEdits edits }
     ensures { edits_left edits.entry result ≡ change_edits edits.entry.verdicts.now edits.entry.side (change_of edits.entry.text.now edits.entry.change.now) }
 {
@@ -47,7 +47,7 @@ fn first_row(verdicts: &[Verdict], count: usize) -> usize
 }
 
 /// The next step, unless none is left.
-pub fn step(edits: Edits, place: Place) -> Option<Step>
+pub fn step(edits: Edits, place: ChangeCursor) -> Option<Step>
     requires { AreEdits edits }
     ensures { MatchOption result (edits_left edits.entry place ≡ []) (IsStep edits.entry.text.now (left_of edits.entry.text.now edits.entry.side edits.entry.verdicts.now edits.entry.change.now) (row_total edits.entry.change.now) place) }
 {

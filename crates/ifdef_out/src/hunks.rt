@@ -12,32 +12,32 @@ ghost use Rattle.hunk_apply.specs.Splice.{Edit, marked_edits};
 ghost use Rattle.ifdef_out.specs.Placed.{placed_edits};
 ghost use Rattle.ifdef_out.specs.Places.{hunks_at, step_edit, IsStep, Lies};
 
-use crate::place::{LineEdit, Place, Step};
+use crate::place::{ChangeCursor, LineEdit, Step};
 use hunk_apply::turned;
 use hunk_core::{Hunk, HunkLine, Mark, Side, Verdict};
 
 /// The place in front of a hunk's first line, or behind its last one where the hunk wasn't placed.
-pub fn hunk_start(hunks: &[Hunk], verdicts: &[Verdict], row: usize) -> Place
+pub fn hunk_start(hunks: &[Hunk], verdicts: &[Verdict], row: usize) -> ChangeCursor
     requires rows { length verdicts.now ≡ length hunks.now }
     requires tried { All IsTried verdicts.now }
     ensures left { (text : List ℕ) → (side : Side) → hunks_at text side verdicts.now hunks.now result.row result.line result.next ≡ placed_edits (drop row verdicts.now) (taken_all text side (drop row hunks.now)) }
     ensures row { result.row ≡ row }
 {
     if row >= hunks.len() {
-        return Place {
+        return ChangeCursor {
             row,
             line: 0,
             next: 1,
         };
     }
     if let Verdict::At { line, .. } = verdicts[row] {
-        return Place {
+        return ChangeCursor {
             row,
             line: 0,
             next: line,
         };
     }
-    Place {
+    ChangeCursor {
         row,
         line: hunks[row].body.len(),
         next: 1,
@@ -50,7 +50,7 @@ pub fn hunk_step(
     hunks: &[Hunk],
     side: Side,
     verdicts: &[Verdict],
-    place: Place,
+    place: ChangeCursor,
 ) -> Option<Step>
     requires lawful { All (IsLawful text.now) hunks.now }
     requires rows { length verdicts.now ≡ length hunks.now }
@@ -72,7 +72,7 @@ pub fn hunk_step(
 }
 
 /// The step over a line of a body.
-fn line_step(line: HunkLine, side: Side, place: Place) -> Step
+fn line_step(line: HunkLine, side: Side, place: ChangeCursor) -> Step
     requires { place.line < 2 ^ 32 }
     ensures edit { (text : List ℕ) → (rest : List Edit) → marked_edits (taken_mark side line.mark) place.next (bytes_at text line.span) (λ _. rest) ≡ step_edit text result.edit ++ rest }
     ensures row { result.behind.row ≡ place.row }
@@ -83,7 +83,7 @@ fn line_step(line: HunkLine, side: Side, place: Place) -> Step
     match turned(line.mark, side) {
         Mark::Keep => Step {
             edit: None,
-            behind: Place {
+            behind: ChangeCursor {
                 row: place.row,
                 line: place.line + 1,
                 next: place.next + 1,
@@ -94,7 +94,7 @@ fn line_step(line: HunkLine, side: Side, place: Place) -> Step
                 at: place.next,
                 added: None,
             }),
-            behind: Place {
+            behind: ChangeCursor {
                 row: place.row,
                 line: place.line + 1,
                 next: place.next + 1,
@@ -105,7 +105,7 @@ fn line_step(line: HunkLine, side: Side, place: Place) -> Step
                 at: place.next,
                 added: Some(line.span),
             }),
-            behind: Place {
+            behind: ChangeCursor {
                 row: place.row,
                 line: place.line + 1,
                 next: place.next,

@@ -5,7 +5,7 @@ ghost use Rattle.std.specs.List.{AllByRecursion};
 ghost use Rattle.hunk_core.specs.declared.Side.{Side};
 ghost use Rattle.hunk_core.specs.PlainHunk.{PlainHunk};
 ghost use Rattle.ed_form.specs.PlainEdit.{PlainEdit, AreLawful};
-ghost use Rattle.file_patch.specs.PlainPatch.{hunks, script};
+ghost use Rattle.read_file_patch.specs.PlainPatch.{hunks, script};
 ghost use Rattle.hunk_apply.specs.Change.{change_output};
 ghost use Rattle.hunk_apply.specs.Splice.{Edit, spliced};
 ghost use Rattle.ifdef_out.specs.Reading.{fed, new_text, reader_gets, IsPlain};

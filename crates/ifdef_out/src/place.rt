@@ -13,7 +13,7 @@ pub struct LineEdit {
 
 /// Where a walk has come to in a change.
 #[derive(Clone, Copy)]
-pub struct Place {
+pub struct ChangeCursor {
     /// The hunk, or the command of a script, counted from the last one.
     pub row: usize,
     /// The line of the hunk's body, or of the command's text.
@@ -27,5 +27,5 @@ pub struct Place {
 #[derive(Clone, Copy)]
 pub struct Step {
     pub edit: Option<LineEdit>,
-    pub behind: Place,
+    pub behind: ChangeCursor,
 }

@@ -4,7 +4,7 @@ ghost use Rattle.std.specs.Prelude.{◌≡◌, ℕ, List, length, true, Some, On
 ghost use Rattle.std.specs.List.{All};
 ghost use Rattle.line_store.specs.Store.{Keeps};
 ghost use Rattle.outside.specs.SinkView.{SinkPasses, Receives, ReceivesPart};
-ghost use Rattle.file_patch.specs.PlainPatch.{IsLawfulChange, change_of, row_count};
+ghost use Rattle.read_file_patch.specs.PlainPatch.{IsLawfulChange, change_of, row_count};
 ghost use Rattle.hunk_apply.specs.Session.{IsTried};
 ghost use Rattle.ifdef_out.specs.Faults.{HasIfdefCause};
 ghost use Rattle.ifdef_out.specs.Placed.{ArePlaced, change_edits};
@@ -14,11 +14,11 @@ ghost use Rattle.patch_options.specs.Forms.{is_macro_name};
 use crate::IfdefFault;
 use crate::blocks::put_blocks;
 use crate::edits::Edits;
-use file_patch::FilePatch;
 use hunk_apply::ApplyFault;
 use hunk_core::{Side, Verdict};
 use line_store::LineStore;
 use outside::Sink;
+use read_file_patch::FilePatch;
 
 /// Writes the store's lines and those that a file patch adds where its hunks were placed, parted by conditions on the name
 /// `define`. The verdicts are those of applying the file patch to this store. The store's lines are lent to the sink one by

@@ -8,24 +8,24 @@ ghost use Rattle.hunk_apply.specs.Splice.{add, drop_line};
 ghost use Rattle.ifdef_out.specs.Placed.{command_edits};
 ghost use Rattle.ifdef_out.specs.Places.{script_at, step_edit, IsStep, Lies};
 
-use crate::place::{LineEdit, Place, Step};
+use crate::place::{ChangeCursor, LineEdit, Step};
 use ed_form::EdScript;
 use line_list::Span;
 
 /// The place in front of a command's first line.
-pub fn script_start(script: &EdScript, row: usize) -> Place
+pub fn script_start(script: &EdScript, row: usize) -> ChangeCursor
     ensures left { (text : List ℕ) → script_at text script.now.edits.items result.row result.line result.next ≡ flat_map command_edits (edits_of text (drop row (reverse script.now.edits.items))) }
     ensures row { result.row ≡ row }
     ensures next { result.next < 2 ^ 32 }
 {
     if row >= script.edits.len() {
-        return Place {
+        return ChangeCursor {
             row,
             line: 0,
             next: 1,
         };
     }
-    Place {
+    ChangeCursor {
         row,
         line: 0,
         next: script.edits[script.edits.len() - 1 - row].first as u64,
@@ -33,7 +33,7 @@ pub fn script_start(script: &EdScript, row: usize) -> Place
 }
 
 /// The next step over a script, unless none is left.
-pub fn script_step(text: &[u8], script: &EdScript, place: Place) -> Option<Step>
+pub fn script_step(text: &[u8], script: &EdScript, place: ChangeCursor) -> Option<Step>
     requires lawful { IsLawfulScript text.now script.now }
     ensures { MatchOption result (script_at text.now script.now.edits.items place.row place.line place.next ≡ []) (IsStep text.now (script_at text.now script.now.edits.items) (length script.now.edits.items) place) }
 {
@@ -55,7 +55,7 @@ pub fn script_step(text: &[u8], script: &EdScript, place: Place) -> Option<Step>
 }
 
 /// The step over a line that a command drops.
-fn drop_step(place: Place) -> Step
+fn drop_step(place: ChangeCursor) -> Step
     requires { place.next < 2 ^ 32 }
     ensures edit { (text : List ℕ) → step_edit text result.edit ≡ drop_line place.next ∷ [] }
     ensures row { result.behind.row ≡ place.row }
@@ -68,7 +68,7 @@ fn drop_step(place: Place) -> Step
             at: place.next,
             added: None,
         }),
-        behind: Place {
+        behind: ChangeCursor {
             row: place.row,
             line: place.line,
             next: place.next + 1,
@@ -77,7 +77,7 @@ fn drop_step(place: Place) -> Step
 }
 
 /// The step over a line that a command adds behind its last line.
-fn add_step(span: Span, last: u32, place: Place) -> Step
+fn add_step(span: Span, last: u32, place: ChangeCursor) -> Step
     requires { place.line + 1 < 2 ^ 64 }
     ensures edit { (text : List ℕ) → step_edit text result.edit ≡ add (last + 1) (bytes_at text span) ∷ [] }
     ensures row { result.behind.row ≡ place.row }
@@ -90,7 +90,7 @@ fn add_step(span: Span, last: u32, place: Place) -> Step
             at: last as u64 + 1,
             added: Some(span),
         }),
-        behind: Place {
+        behind: ChangeCursor {
             row: place.row,
             line: place.line + 1,
             next: place.next,

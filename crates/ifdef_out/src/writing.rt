@@ -15,7 +15,7 @@ use crate::block::{Block, gap_behind};
 use crate::edits::Edits;
 use crate::found::next_edit;
 use crate::marking::put_condition;
-use crate::place::{LineEdit, Place};
+use crate::place::{ChangeCursor, LineEdit};
 use hunk_apply::{ApplyFault, Tail, copy_lines, put_line};
 use line_store::LineStore;
 use outside::{Failed, Sink};
@@ -26,7 +26,7 @@ pub fn put_block<S: LineStore, O: Sink>(
     out: &mut O,
     tail: Tail,
     edits: Edits,
-    place: Place,
+    place: ChangeCursor,
     first: u64,
     block: Block,
     define: &str,
@@ -81,7 +81,7 @@ fn put_added<O: Sink>(
     out: &mut O,
     tail: Tail,
     edits: Edits,
-    place: Place,
+    place: ChangeCursor,
     first: u64,
 ) -> Result<Tail, Failed>
     requires { AreEdits edits }

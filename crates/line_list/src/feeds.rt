@@ -16,7 +16,7 @@ const WORDS: usize = 8;
 
 /// Which bytes of a part of a text are line feeds.
 #[derive(Clone, Copy)]
-pub struct Feeds {
+pub struct LineFeeds {
     /// Where the part begins.
     pub at: usize,
     /// How many words of marks it has, at most eight; with none nothing is known.
@@ -25,12 +25,12 @@ pub struct Feeds {
     pub marks: [u64; 8],
 }
 
-impl Feeds {
+impl LineFeeds {
     /// Nothing is known yet.
-    pub fn unknown() -> Feeds
+    pub fn unknown() -> LineFeeds
         ensures { (text : List ℕ) → AreFeeds text result }
     {
-        Feeds {
+        LineFeeds {
             at: 0,
             count: 0,
             marks: [0; WORDS],
@@ -41,7 +41,7 @@ impl Feeds {
 /// The place after the line that begins at `at`, or `None` at the end of the text, as `next_line` gives it. Who goes from line to line with the
 /// same feeds finds the ends of short lines in half the time.
 #[inline(always)]
-pub fn next_line_by(text: &[u8], at: usize, feeds: &mut Feeds) -> Option<usize>
+pub fn next_line_by(text: &[u8], at: usize, feeds: &mut LineFeeds) -> Option<usize>
     requires within { at ≤ length text.now }
     requires feeds { AreFeeds text.now feeds.old }
     ensures end { EndsLine text.now at result }
@@ -59,7 +59,7 @@ pub fn next_line_by(text: &[u8], at: usize, feeds: &mut Feeds) -> Option<usize>
 
 /// The place after the line that begins at `at`, where the feeds tell it: its line feed is in the word of `at` or in the next one.
 #[inline(always)]
-fn known_end(text: &[u8], at: usize, feeds: &Feeds) -> Option<usize>
+fn known_end(text: &[u8], at: usize, feeds: &LineFeeds) -> Option<usize>
     requires within { at ≤ length text.now }
     requires feeds { AreFeeds text.now feeds.now }
     ensures { IfSome result (IsLineAt text.now at) }
@@ -80,7 +80,7 @@ fn known_end(text: &[u8], at: usize, feeds: &Feeds) -> Option<usize>
 
 /// The place after the line that begins at `at`, where it goes on to this word and ends in it.
 #[inline(always)]
-fn end_in(text: &[u8], at: usize, feeds: &Feeds, word: usize) -> Option<usize>
+fn end_in(text: &[u8], at: usize, feeds: &LineFeeds, word: usize) -> Option<usize>
     requires feeds { AreFeeds text.now feeds.now }
     requires order { at ≤ feeds.now.at + 64 * word }
     requires before { NoFeed text.now at (feeds.now.at + 64 * word) }
@@ -112,7 +112,7 @@ fn first_mark(marks: u64, passed: usize) -> Option<usize>
 }
 
 /// Looks at the bytes from `at` on.
-fn look_on(text: &[u8], at: usize, feeds: &mut Feeds)
+fn look_on(text: &[u8], at: usize, feeds: &mut LineFeeds)
     requires { at ≤ length text.now }
     ensures { AreFeeds text.now feeds.new }
 {
@@ -121,7 +121,7 @@ fn look_on(text: &[u8], at: usize, feeds: &mut Feeds)
     for word in 0..count {
         marks[word] = marks_at(text, at + WIDTH * word);
     }
-    *feeds = Feeds { at, count, marks };
+    *feeds = LineFeeds { at, count, marks };
 }
 
 /// A bit for each of 64 bytes, which is set where it is a line feed.

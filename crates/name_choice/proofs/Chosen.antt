@@ -6,9 +6,9 @@ use Rattle.outside.specs.TreeView.{TreeView, Rises}
 use Rattle.outside.specs.Calls.{IsUntouched}
 use Rattle.outside.proofs.Views.{rises_then}
 use Rattle.hunk_core.specs.declared.Side.{Side}
-use Rattle.header_record.specs.declared.Action.{Action}
-use Rattle.file_patch.specs.declared.derived.Target.{Target}
-use Rattle.file_patch.specs.Actions.{is_moved}
+use Rattle.read_header_record.specs.declared.Action.{Action}
+use Rattle.read_file_patch.specs.declared.derived.Target.{Target}
+use Rattle.read_file_patch.specs.Actions.{is_moved}
 use Rattle.name_choice.specs.declared.Choice.{Choice}
 use Rattle.name_choice.specs.declared.Choice.TheVariants.{Create, Existing, Nothing}
 use Rattle.name_choice.specs.Choice.{choice, choice_among, chosen_or, created, done_place, existing, existing_at, existing_or, first_place, moved_choice, names_of, side_of, source_place, to_create, IsWithin}

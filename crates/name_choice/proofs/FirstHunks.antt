@@ -4,11 +4,11 @@ use Rattle.hunk_core.specs.declared.Hunk.{Hunk}
 use Rattle.hunk_core.specs.declared.Side.{Side}
 use Rattle.hunk_core.specs.declared.Side.TheVariants.{Forward, Reversed}
 use Rattle.hunk_core.specs.PlainHunk.{hunks_of}
-use Rattle.file_patch.specs.declared.Change.{Change}
-use Rattle.file_patch.specs.declared.Change.TheVariants.{Hunks, Script}
-use Rattle.file_patch.specs.declared.FilePatch.{FilePatch}
-use Rattle.file_patch.specs.PlainPatch.{change_of, hunks, patch_of}
-use Rattle.file_patch.specs.Absent.{IsLawfulPatch, creates}
+use Rattle.read_file_patch.specs.declared.Change.{Change}
+use Rattle.read_file_patch.specs.declared.Change.TheVariants.{Hunks, Script}
+use Rattle.read_file_patch.specs.declared.FilePatch.{FilePatch}
+use Rattle.read_file_patch.specs.PlainPatch.{change_of, hunks, patch_of}
+use Rattle.read_file_patch.specs.Absent.{IsLawfulPatch, creates}
 use Rattle.name_choice.specs.Making.{first_none, may_make, names_new, starts_at_none, tells_empty_sides, told_making, told_new, told_none}
 
 first_told : (text : List ℕ) (side : Side) (hs : List Hunk) → first_none side hs ≡ starts_at_none side (hunks (hunks_of text hs))

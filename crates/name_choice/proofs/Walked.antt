@@ -9,7 +9,7 @@ use Rattle.name_choice.specs.Better.{is_better, best_among, name_at}
 use Rattle.name_choice.specs.Choice.{is_there, new_directories, needs_fewest, names_of}
 use Rattle.name_choice.specs.Rank.{rank_of, precedes, better_of, best_at, best_with, place_of}
 use Rattle.std.proofs.lemmas.List.{get_or-map, length-map}
-use Rattle.file_patch.specs.declared.derived.Target.{Target}
+use Rattle.read_file_patch.specs.declared.derived.Target.{Target}
 use Rattle.name_choice.proofs.Best.{pick, walk, all-walked}
 use Rattle.name_choice.proofs.Fewest.{nearer, fewest-walked}
 

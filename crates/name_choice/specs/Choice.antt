@@ -7,10 +7,10 @@ use Rattle.outside.specs.Files.{Files}
 use Rattle.outside.specs.Names.{components, directory_text}
 use Rattle.hunk_core.specs.declared.Side.{Side}
 use Rattle.hunk_core.specs.declared.Side.TheVariants.{Forward, Reversed}
-use Rattle.header_record.specs.declared.Action.{Action}
-use Rattle.header_record.specs.declared.Action.TheVariants.{Plain, New, Deleted, Rename, Copy}
-use Rattle.file_patch.specs.declared.derived.Target.{Target}
-use Rattle.file_patch.specs.Actions.{is_moved}
+use Rattle.read_header_record.specs.declared.Action.{Action}
+use Rattle.read_header_record.specs.declared.Action.TheVariants.{Plain, New, Deleted, Rename, Copy}
+use Rattle.read_file_patch.specs.declared.derived.Target.{Target}
+use Rattle.read_file_patch.specs.Actions.{is_moved}
 use Rattle.name_choice.specs.declared.Choice.{Choice}
 use Rattle.name_choice.specs.declared.Choice.TheVariants.{Existing, Create, Nothing}
 use Rattle.name_choice.specs.Better.{best_among}

@@ -7,11 +7,11 @@ use Rattle.hunk_core.specs.declared.Side.{Side}
 use Rattle.hunk_core.specs.declared.Side.TheVariants.{Forward, Reversed}
 use Rattle.hunk_core.specs.Sides.{start_of}
 use Rattle.hunk_core.specs.Turned.{turned}
-use Rattle.file_patch.specs.declared.Change.{Change}
-use Rattle.file_patch.specs.declared.Change.TheVariants.{Hunks, Script}
-use Rattle.file_patch.specs.declared.FilePatch.{FilePatch}
-use Rattle.file_patch.specs.PlainPatch.{PlainChange, PlainPatch, hunks, script}
-use Rattle.file_patch.specs.Absent.{creates, told_absent}
+use Rattle.read_file_patch.specs.declared.Change.{Change}
+use Rattle.read_file_patch.specs.declared.Change.TheVariants.{Hunks, Script}
+use Rattle.read_file_patch.specs.declared.FilePatch.{FilePatch}
+use Rattle.read_file_patch.specs.PlainPatch.{PlainChange, PlainPatch, hunks, script}
+use Rattle.read_file_patch.specs.Absent.{creates, told_absent}
 
 -- a range of this form says of a side without lines that it has none; a command of a normal diff or of an ed script that adds at 0 is an insertion in front
 abbrev pub tells_empty_sides : Form → Bool

@@ -9,8 +9,8 @@ ghost use Rattle.name_choice.specs.Making.{told_new};
 use crate::Choice;
 use crate::making::names_new;
 use crate::search::{best_existing, best_new, first_existing};
-use file_patch::{FilePatch, Target};
 use outside::{Failed, Tree};
+use read_file_patch::{FilePatch, Target};
 
 /// Chooses where the file isn't renamed or copied.
 pub fn choose_among<T: Tree>(

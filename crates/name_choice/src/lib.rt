@@ -1,4 +1,4 @@
-//! Which of its names a file patch is meant for: the best of those that are there, or one that it can make. Stands on `file_patch`
+//! Which of its names a file patch is meant for: the best of those that are there, or one that it can make. Stands on `read_file_patch`
 //! and the tree of `outside`. Begin with `specs/Choice.antt`.
 #![tactic(auto)]
 
@@ -18,12 +18,12 @@ mod search;
 
 use crate::among::choose_among;
 use crate::moved::choose_moved;
-use file_patch::FilePatch;
 use hunk_core::Side;
 pub use laws::choice_laws;
 pub use making::may_make;
 use outside::{Failed, Tree};
 pub use rank::is_better;
+use read_file_patch::FilePatch;
 
 /// The name that was chosen, by its place among the targets, counted from 0.
 #[derive(Clone, Copy)]

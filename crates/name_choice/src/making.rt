@@ -1,11 +1,11 @@
 //! Whether a file patch can make its file where none of its names is there.
 ghost use Rattle.std.specs.Prelude.{◌≡◌, ℕ, List};
-ghost use Rattle.file_patch.specs.Absent.{IsLawfulPatch};
-ghost use Rattle.file_patch.specs.PlainPatch.{patch_of};
+ghost use Rattle.read_file_patch.specs.Absent.{IsLawfulPatch};
+ghost use Rattle.read_file_patch.specs.PlainPatch.{patch_of};
 ghost use Rattle.name_choice.specs.Making.{first_none, may_make, tells_empty_sides, told_making, told_new, told_none};
 
-use file_patch::{Change, FilePatch};
 use hunk_core::{Form, Hunk, Side};
+use read_file_patch::{Change, FilePatch};
 
 /// Whether it can make its file, taken from this side: it says that there is none, or its first hunk
 /// starts at 0.

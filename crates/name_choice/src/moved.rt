@@ -7,10 +7,10 @@ ghost use Rattle.name_choice.specs.Choice.{done_place, existing_at, existing_if,
 
 use crate::Choice;
 use crate::search::is_there;
-use file_patch::Target;
-use header_record::Action;
 use hunk_core::Side;
 use outside::{Failed, Tree};
+use read_file_patch::Target;
+use read_header_record::Action;
 
 /// Chooses the name that the file has, where the rename or the copy is taken from this side: the one that it had before,
 /// or the other one of a file that was renamed before.

@@ -3,8 +3,8 @@ ghost use Rattle.std.specs.Prelude.{◌≡◌, length};
 ghost use Rattle.name_choice.specs.Better.{component_count, is_better};
 ghost use Rattle.name_choice.specs.Rank.{rank_of, precedes, better_of, best_at, best_with, place_of};
 
-use file_patch::last_component;
 use outside::Name;
+use read_file_patch::last_component;
 
 /// How good a name is: the first count in which two names differ decides, and the smaller one is better.
 #[derive(Clone, Copy)]

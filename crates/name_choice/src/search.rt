@@ -8,8 +8,8 @@ ghost use Rattle.name_choice.specs.Better.{best_among};
 ghost use Rattle.name_choice.specs.Choice.{is_there, is_new_directory, new_directories, needs_fewest, names_of};
 
 use crate::rank::{best_with, place_of};
-use file_patch::Target;
 use outside::{Failed, Name, Tree};
+use read_file_patch::Target;
 
 /// The place of the best of the names that are in the tree.
 pub fn best_existing<T: Tree>(targets: &[Target], tree: &mut T) -> Result<Option<u32>, Failed>

@@ -187,7 +187,7 @@ pub fn first_faults()
 {}
 
 /// The tests of the grammar, in the words of the diffutils manual.
-pub fn grammar_in_words()
+pub fn grammar_laws()
     // A number, perhaps a comma and a number; one of 'a', 'c' and 'd'; a number, perhaps a comma and a number; nothing more.
     ensures command { (line : List ℕ) → is_command line ≡ true ↔ IsCommand line }
     // '< ' or '> '.

@@ -7,5 +7,5 @@ mod hunks;
 mod stretch;
 mod writing;
 
-pub use hunks::{at_opening, first_faults, grammar_in_words, read_hunks};
+pub use hunks::{at_opening, first_faults, grammar_laws, read_hunks};
 pub use writing::{is_in_order, put_hunk};

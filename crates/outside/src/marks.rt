@@ -9,17 +9,17 @@ use std::collections::BTreeMap;
 
 /// Names, of which some are marked. Room is made for a name first, so that a mark needs no memory.
 #[derive(Drop)]
-pub struct NameMarks {
+pub struct WrittenNames {
     marks: BTreeMap<String, bool>,
 }
 
-impl NameMarks {
+impl WrittenNames {
     /// There is room for no name, and none is marked.
-    pub fn new(alloc: Global) -> NameMarks
+    pub fn new(alloc: Global) -> WrittenNames
         ensures room { (q : List ℕ) → has_room result q ≡ false }
         ensures marks { (q : List ℕ) → is_marked result q ≡ false }
     {
-        NameMarks {
+        WrittenNames {
             marks: BTreeMap::new(alloc),
         }
     }

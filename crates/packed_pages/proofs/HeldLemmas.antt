@@ -18,7 +18,7 @@ use Rattle.page_pair.proofs.Told.{mapped-lines}
 use Rattle.packed_pages.specs.declared.layout.Layout.{Layout}
 use Rattle.packed_pages.specs.declared.marks.PageMarks.{PageMarks}
 use Rattle.packed_pages.specs.declared.marks.Marks.{Marks}
-use Rattle.packed_pages.specs.declared.places.Place.{Place}
+use Rattle.packed_pages.specs.declared.places.RecordPlace.{RecordPlace}
 use Rattle.packed_pages.specs.declared.places.Places.{Places}
 use Rattle.packed_pages.specs.Packs.{records, joined, page_with, bytes_of}
 use Rattle.packed_pages.specs.Layout.{IsLayout, HasPacks, first_line, page_in, place_in, lines_on, pages_in, decoded, lines_told, told-none, told-some}
@@ -27,13 +27,13 @@ use Rattle.packed_pages.specs.Held.{seen_of, place_of, line_held, IsPage, HoldsP
 use Rattle.packed_pages.proofs.Pages.{pages-many, first-at, page-at, page-length, joined-more, place-at, stated-at, line-in-at, record-within}
 
 -- where the page of a place stands among the pages of the scratch
-pub record Stands (l : Layout) (ps : List (List (List ℕ))) (p : Place) (page : List ℕ) : Type 0 where
+pub record Stands (l : Layout) (ps : List (List (List ℕ))) (p : RecordPlace) (page : List ℕ) : Type 0 where
   pub there : p.page < length ps
   pub is : page ≡ page_with l.size (get_or ps p.page [])
   pub first : p.first ≡ 1 + length (joined (take p.page ps))
   pub next : p.next ≡ p.first + length (get_or ps p.page [])
 
-stands : (l : Layout) (b : List ℕ) (p : Place) (page : List ℕ) → IsLayout l → HasPacks l b → p.page < l.pages → IsPage l b p page → Stands l (pages_in l b) p page
+stands : (l : Layout) (b : List ℕ) (p : RecordPlace) (page : List ℕ) → IsLayout l → HasPacks l b → p.page < l.pages → IsPage l b p page → Stands l (pages_in l b) p page
 stands l b p page is h lt at =
     let m : length (pages_in l b) ≡ l.pages = pages-many l b in
     let a : first_line l b p.page ≡ 1 + length (joined (take p.page (pages_in l b))) = ap (λ x. first_line l x p.page) h.is ∙ first-at l (pages_in l b) p.page (pages-many l b) h.counted is.few (omega arith) in
@@ -60,7 +60,7 @@ on-page size ls i lt fits small =
     )
 
 -- no record of a page reaches past its end
-pub no-overrun : (l : Layout) (b : List ℕ) (p : Place) (page : List ℕ) (k : ℕ) → IsLayout l → HasPacks l b → p.page < l.pages → IsPage l b p page → p.first ≤ k → k < p.next → Overruns (k - p.first) page → ⊥
+pub no-overrun : (l : Layout) (b : List ℕ) (p : RecordPlace) (page : List ℕ) (k : ℕ) → IsLayout l → HasPacks l b → p.page < l.pages → IsPage l b p page → p.first ≤ k → k < p.next → Overruns (k - p.first) page → ⊥
 no-overrun l b p page k is h lt at low high over =
     let s = stands l b p page is h lt at in
     let next : p.next ≡ p.first + length (get_or (pages_in l b) p.page []) = s.next in
@@ -102,7 +102,7 @@ unfolding decoded
 packs-decoded l b h = sym (fill_by_all (λ i. get_or (joined (pages_in l b)) i []) (joined (pages_in l b)) l.count [] h.counted (λ i lt. refl))
 
 -- a line of the page that a half holds
-pub line-there : (l : Layout) (v : ScratchView) (p : Place) (page : List ℕ) (k : ℕ) (ls : List (List ℕ)) → IsLayout l → HoldsPacks l v → p.page < l.pages → ((b : List ℕ) → v.told ≡ Some b → IsPage l b p page) → 1 ≤ k → k ≤ l.count → p.first ≤ k → k < p.next → lines_told l v.told ≡ Some ls → line_in page (place_in (k - p.first) page) ≡ line_at ls k
+pub line-there : (l : Layout) (v : ScratchView) (p : RecordPlace) (page : List ℕ) (k : ℕ) (ls : List (List ℕ)) → IsLayout l → HoldsPacks l v → p.page < l.pages → ((b : List ℕ) → v.told ≡ Some b → IsPage l b p page) → 1 ≤ k → k ≤ l.count → p.first ≤ k → k < p.next → lines_told l v.told ≡ Some ls → line_in page (place_in (k - p.first) page) ≡ line_at ls k
 line-there l v p page k ls is packs lt at some most low high told =
     let b = mapped-lines (decoded l) v.told ls (sym (told-some l v.told (omega arith)) ∙ told) in
     let hp : HasPacks l b.0 = packs b.0 b.1.0 in
@@ -117,21 +117,21 @@ line-there l v p page k ls is packs lt at some most low high told =
     ∙ ap (λ x. line_at x k) (sym (packs-decoded l b.0 hp) ∙ b.1.1)
 
 -- the line that a half holds, on its page
-pub line-held : (pair : Pair) (l : Layout) (v : ScratchView) (h : Half) (p : Place) (k : ℕ) (ls : List (List ℕ)) → IsLayout l → HoldsPacks l v → IsLoaded pair l v h p → p.line ≡ k → lines_told l v.told ≡ Some ls → line_in (page_of pair h) p.at ≡ line_at ls k
+pub line-held : (pair : Pair) (l : Layout) (v : ScratchView) (h : Half) (p : RecordPlace) (k : ℕ) (ls : List (List ℕ)) → IsLayout l → HoldsPacks l v → IsLoaded pair l v h p → p.line ≡ k → lines_told l v.told ≡ Some ls → line_in (page_of pair h) p.at ≡ line_at ls k
 line-held pair l v h p k ls is packs loaded same told =
     ap (line_in (page_of pair h)) loaded.on.place
     ∙ line-there l v p (page_of pair h) p.line ls is packs loaded.on.page loaded.on.told loaded.some loaded.most loaded.on.low loaded.on.high told
     ∙ ap (line_at ls) same
 
 -- pages, scratch and places where one half changes
-pub held-more : (p q : Pair) (l : Layout) (hs ht : Places) (v w : ScratchView) (half : Half) → IsHeld p l hs v → q.size ≡ p.size → w.told ≡ v.told → ((h : Half) → h ≢ half → page_of q h ≡ page_of p h) → ((h : Half) → h ≢ half → place_of ht h ≡ place_of hs h) → ((x : Place) → place_of ht half ≡ Some x → IsLoaded q l w half x) → IsHeld q l ht w
+pub held-more : (p q : Pair) (l : Layout) (hs ht : Places) (v w : ScratchView) (half : Half) → IsHeld p l hs v → q.size ≡ p.size → w.told ≡ v.told → ((h : Half) → h ≢ half → page_of q h ≡ page_of p h) → ((h : Half) → h ≢ half → place_of ht h ≡ place_of hs h) → ((x : RecordPlace) → place_of ht half ≡ Some x → IsLoaded q l w half x) → IsHeld q l ht w
 held-more p q l hs ht v w half held size told pages places here = record {
   layout = held.layout;
   size = held.size ∙ sym size;
   packs = λ some b is. held.packs some b (sym told ∙ is);
   loaded = λ h x is. each half h here kept x is;
 } where
-  kept : (h : Half) (x : Place) → h ≢ half → place_of ht h ≡ Some x → IsLoaded q l w h x
+  kept : (h : Half) (x : RecordPlace) → h ≢ half → place_of ht h ≡ Some x → IsLoaded q l w h x
   kept h x ne is =
       let was = held.loaded h x (sym (places h ne) ∙ is) in
       record {
@@ -148,7 +148,7 @@ held-more p q l hs ht v w half held size told pages places here = record {
         fits = subst (λ page. x.at + 4 + stated page x.at ≤ length page) (sym (pages h ne)) was.fits;
       }
 
-  each : (g h : Half) → ((x : Place) → place_of ht g ≡ Some x → IsLoaded q l w g x) → ((h : Half) (x : Place) → h ≢ g → place_of ht h ≡ Some x → IsLoaded q l w h x) → (x : Place) → place_of ht h ≡ Some x → IsLoaded q l w h x
+  each : (g h : Half) → ((x : RecordPlace) → place_of ht g ≡ Some x → IsLoaded q l w g x) → ((h : Half) (x : RecordPlace) → h ≢ g → place_of ht h ≡ Some x → IsLoaded q l w h x) → (x : RecordPlace) → place_of ht h ≡ Some x → IsLoaded q l w h x
   each First First own others x is = own x is
   each First Second own others x is = others Second x (λ (e : Second ≡ First). (cc)) is
   each Second First own others x is = others First x (λ (e : First ≡ Second). (cc)) is
@@ -171,9 +171,9 @@ load-cause Scratch l hs ht v w some h = h
 load-cause (Disagree want got) l hs ht v w some h = (h.0, told-some l v.told some ∙ ap (option_map (decoded l)) h.1)
 
 -- the place from which a line is found stands on the page that is held
-pub start-held : (pair : Pair) (l : Layout) (places : Places) (ms : PageMarks) (v : ScratchView) (h : Half) (k : ℕ) (p : Place) → IsHeld pair l places v → AreMarks (page_of pair h) ms → IfStart (place_of places h) ms k (Some p) → IsOnPage pair l v h p
+pub start-held : (pair : Pair) (l : Layout) (places : Places) (ms : PageMarks) (v : ScratchView) (h : Half) (k : ℕ) (p : RecordPlace) → IsHeld pair l places v → AreMarks (page_of pair h) ms → IfStart (place_of places h) ms k (Some p) → IsOnPage pair l v h p
 start-held pair l places ms v h k p held are start = from (place_of places h) refl start where
-  from : (o : Option Place) → place_of places h ≡ o → IfStart o ms k (Some p) → IsOnPage pair l v h p
+  from : (o : Option RecordPlace) → place_of places h ≡ o → IfStart o ms k (Some p) → IsOnPage pair l v h p
   from None is at = absurd at
   from (Some was) is at =
       let on = (held.loaded h was is).on in
@@ -215,7 +215,7 @@ pub empty-seen : (l : Layout) (places : Places) (v : ScratchView) → l.count �
 empty-seen l places v e = record { told = told-none l v.told e; count = e }
 
 -- the line that is lent
-pub line-lent : (pair : Pair) (l : Layout) (places : Places) (v : ScratchView) (h : Half) (p : Place) (k : ℕ) (ls : List (List ℕ)) → IsHeld pair l places v → place_of places h ≡ Some p → line_held places h ≡ Some k → lines_told l v.told ≡ Some ls → line_in (page_of pair h) p.at ≡ line_at ls k
+pub line-lent : (pair : Pair) (l : Layout) (places : Places) (v : ScratchView) (h : Half) (p : RecordPlace) (k : ℕ) (ls : List (List ℕ)) → IsHeld pair l places v → place_of places h ≡ Some p → line_held places h ≡ Some k → lines_told l v.told ≡ Some ls → line_in (page_of pair h) p.at ≡ line_at ls k
 line-lent pair l places v h p k ls held is line told =
     let same : Some p.line ≡ Some k = ap (option_map (λ q. q.line)) (sym is) ∙ line in
     let e : p.line ≡ k = cc in
@@ -224,7 +224,7 @@ line-lent pair l places v h p k ls held is line told =
     let most : p.line ≤ l.count = loaded.most in
     line-held pair l v h p k ls held.layout (held.packs (omega arith)) loaded e told
 
-unheld : (o : Option Place) → option_map (λ p. p.line) o ≡ None → o ≡ None
+unheld : (o : Option RecordPlace) → option_map (λ p. p.line) o ≡ None → o ≡ None
 unheld None e = refl
 unheld (Some p) e = absurd (none-some p.line (sym e))
 

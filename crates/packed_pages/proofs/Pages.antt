@@ -16,7 +16,7 @@ use Rattle.page_pair.specs.Records.{stated, line_in}
 use Rattle.page_pair.proofs.Records.{padded-length}
 use Rattle.page_pair.proofs.Windows.{uniform-length, uniform-at}
 use Rattle.packed_pages.specs.declared.layout.Layout.{Layout}
-use Rattle.packed_pages.specs.declared.marks.Mark.{Mark}
+use Rattle.packed_pages.specs.declared.marks.RecordMark.{RecordMark}
 use Rattle.packed_pages.specs.Packs.{packed_record, records, joined, page_with, entries_from, bytes_of}
 use Rattle.packed_pages.specs.Marks.{IsMark}
 use Rattle.packed_pages.specs.Layout.{place_in, first_line, page_in, pages_in, lines_on}
@@ -25,7 +25,7 @@ pub place-more : (n : ℕ) (page : List ℕ) → place_in (n + 1) page ≡ place
 place-more n page = let e : n + 1 ≡ suc n = omega arith in rw e refl
 
 -- the record behind a mark
-pub mark_behind : (page : List ℕ) (m : Mark) (end : ℕ) → IsMark page m → end ≡ m.at + 4 + stated page m.at → end ≤ length page → IsMark page (record { before = m.before + 1; at = end })
+pub mark_behind : (page : List ℕ) (m : RecordMark) (end : ℕ) → IsMark page m → end ≡ m.at + 4 + stated page m.at → end ≤ length page → IsMark page (record { before = m.before + 1; at = end })
 mark_behind page m end is behind within = record {
   place = behind ∙ ap (λ p. p + 4 + stated page p) is.place ∙ sym (place-more m.before page);
   within = within;

@@ -11,14 +11,14 @@ use Rattle.page_pair.specs.Pair.{Pair, page_of}
 use Rattle.page_pair.specs.Records.{stated}
 use Rattle.packed_pages.specs.declared.layout.Layout.{Layout}
 use Rattle.packed_pages.specs.declared.marks.PageMarks.{PageMarks}
-use Rattle.packed_pages.specs.declared.places.Place.{Place}
+use Rattle.packed_pages.specs.declared.places.RecordPlace.{RecordPlace}
 use Rattle.packed_pages.specs.declared.places.Places.{Places}
 use Rattle.packed_pages.specs.declared.searching.Span.{Span}
 use Rattle.packed_pages.specs.Marks.{IsMark, AreMarks}
 use Rattle.packed_pages.specs.Layout.{IsLayout, HasPacks, IsPageOf, first_line, page_in, place_in, lines_told}
 
 -- where the line that a half holds stands
-abbrev pub place_of : Places → Half → Option Place
+abbrev pub place_of : Places → Half → Option RecordPlace
 place_of places First = places.first
 place_of places Second = places.second
 
@@ -39,17 +39,17 @@ seen_of l places v = record {
 }
 
 -- bytes are the page of a place, and its lines go from the first up to before the next one
-pub record IsPage (l : Layout) (b : List ℕ) (p : Place) (page : List ℕ) : Type 0 where
+pub record IsPage (l : Layout) (b : List ℕ) (p : RecordPlace) (page : List ℕ) : Type 0 where
   pub is : page ≡ page_in l b p.page
   pub first : first_line l b p.page ≡ p.first
   pub next : first_line l b (p.page + 1) ≡ p.next
 
 -- a half holds the page of a place, where the scratch tells its bytes
-abbrev pub HoldsPage : Pair → Layout → ScratchView → Half → Place → Type 0
+abbrev pub HoldsPage : Pair → Layout → ScratchView → Half → RecordPlace → Type 0
 HoldsPage pair l v h p = (b : List ℕ) → v.told ≡ Some b → IsPage l b p (page_of pair h)
 
 -- a place stands on the page that a half holds
-pub record IsOnPage (pair : Pair) (l : Layout) (v : ScratchView) (h : Half) (p : Place) : Type 0 where
+pub record IsOnPage (pair : Pair) (l : Layout) (v : ScratchView) (h : Half) (p : RecordPlace) : Type 0 where
   pub low : p.first ≤ p.line
   pub high : p.line < p.next
   pub page : p.page < l.pages
@@ -58,7 +58,7 @@ pub record IsOnPage (pair : Pair) (l : Layout) (v : ScratchView) (h : Half) (p :
   pub told : HoldsPage pair l v h p
 
 -- a half holds the line of a place
-pub record IsLoaded (pair : Pair) (l : Layout) (v : ScratchView) (h : Half) (p : Place) : Type 0 where
+pub record IsLoaded (pair : Pair) (l : Layout) (v : ScratchView) (h : Half) (p : RecordPlace) : Type 0 where
   pub on : IsOnPage pair l v h p
   pub some : 1 ≤ p.line
   pub most : p.line ≤ l.count
@@ -73,23 +73,23 @@ pub record IsHeld (pair : Pair) (l : Layout) (places : Places) (v : ScratchView)
   pub layout : IsLayout l
   pub size : l.size ≡ pair.size
   pub packs : 0 < l.count → HoldsPacks l v
-  pub loaded : (h : Half) (p : Place) → place_of places h ≡ Some p → IsLoaded pair l v h p
+  pub loaded : (h : Half) (p : RecordPlace) → place_of places h ≡ Some p → IsLoaded pair l v h p
 
 -- the page that a half holds is told to be the page of line k
 abbrev pub HoldsPageOf : Layout → Places → ScratchView → Half → ℕ → Type 0
-HoldsPageOf l places v h k = (p : Place) → place_of places h ≡ Some p → (b : List ℕ) → v.told ≡ Some b → IsPageOf l b k p.page
+HoldsPageOf l places v h k = (p : RecordPlace) → place_of places h ≡ Some p → (b : List ℕ) → v.told ≡ Some b → IsPageOf l b k p.page
 
 -- a half holds the page of line k already
 abbrev pub HasPageOf : Places → Half → ℕ → Type 0
-HasPageOf places h k = (p : Place) × ((place_of places h ≡ Some p) × ((p.first ≤ k) × (k < p.next)))
+HasPageOf places h k = (p : RecordPlace) × ((place_of places h ≡ Some p) × ((p.first ≤ k) × (k < p.next)))
 
 -- a place is a record of each page that has these marks
-pub record IsMarked (ms : PageMarks) (p : Place) : Type 0 where
+pub record IsMarked (ms : PageMarks) (p : RecordPlace) : Type 0 where
   pub low : p.first ≤ p.line
   pub is : (page : List ℕ) → AreMarks page ms → IsMark page (record { before = p.line - p.first; at = p.at })
 
 -- a place on the page of another, at a line that isn't after line k
-pub record IsStart (held : Place) (ms : PageMarks) (k : ℕ) (p : Place) : Type 0 where
+pub record IsStart (held : RecordPlace) (ms : PageMarks) (k : ℕ) (p : RecordPlace) : Type 0 where
   pub first : p.first ≡ held.first
   pub next : p.next ≡ held.next
   pub page : p.page ≡ held.page
@@ -98,7 +98,7 @@ pub record IsStart (held : Place) (ms : PageMarks) (k : ℕ) (p : Place) : Type 
   pub place : (p ≡ held) ⊎ IsMarked ms p
 
 -- the place from which line k is found, where a place that is held has it on its page
-abbrev pub IfStart : Option Place → PageMarks → ℕ → Option Place → Type 0
+abbrev pub IfStart : Option RecordPlace → PageMarks → ℕ → Option RecordPlace → Type 0
 IfStart None ms k None = ⊤
 IfStart None ms k (Some p) = ⊥
 IfStart (Some held) ms k None = (held.first ≤ k) → (k < held.next) → ⊥

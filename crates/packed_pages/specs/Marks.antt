@@ -4,13 +4,13 @@ use Rattle.std.specs.List.{All}
 use Rattle.line_store.specs.declared.Half.{Half}
 use Rattle.line_store.specs.declared.Half.TheVariants.{First, Second}
 use Rattle.page_pair.specs.Pair.{Pair, page_of}
-use Rattle.packed_pages.specs.declared.marks.Mark.{Mark}
+use Rattle.packed_pages.specs.declared.marks.RecordMark.{RecordMark}
 use Rattle.packed_pages.specs.declared.marks.PageMarks.{PageMarks}
 use Rattle.packed_pages.specs.declared.marks.Marks.{Marks}
 use Rattle.packed_pages.specs.Layout.{place_in}
 
 -- a mark is a record of a page
-pub record IsMark (page : List ℕ) (m : Mark) : Type 0 where
+pub record IsMark (page : List ℕ) (m : RecordMark) : Type 0 where
   pub place : m.at ≡ place_in m.before page
   pub within : m.at ≤ length page
 

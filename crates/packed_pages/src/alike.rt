@@ -5,7 +5,7 @@ ghost use Rattle.std.specs.Prelude.{◌≡◌, ◌≢◌, ◌≤◌, ◌<◌, �
 ghost use Rattle.line_store.specs.declared.Half.{Half};
 ghost use Rattle.line_store.specs.Store.{Keeps, HasCause, NoneAlike, IsFirstAlike, IsLastAlike};
 ghost use Rattle.std.specs.Option.{option_map};
-ghost use Rattle.packed_pages.specs.declared.places.Place.{Place};
+ghost use Rattle.packed_pages.specs.declared.places.RecordPlace.{RecordPlace};
 ghost use Rattle.page_pair.specs.Pair.{page_of};
 ghost use Rattle.packed_pages.specs.Marks.{AreMarked};
 ghost use Rattle.packed_pages.specs.Layout.{lines_told};
@@ -15,7 +15,7 @@ ghost use Rattle.page_pair.specs.Alike.{FindsFirst};
 use crate::layout::Layout;
 use crate::loading::load_line;
 use crate::marks::Marks;
-use crate::places::{Place, Places};
+use crate::places::{Places, RecordPlace};
 use crate::stepping::{Pass, first_pass, last_pass};
 use line_store::{Half, LineFault};
 use outside::Scratch;
@@ -147,7 +147,7 @@ fn last_on_page<C: Scratch>(
 }
 
 /// The line of a place.
-fn number_of(place: Option<Place>) -> Option<u64>
+fn number_of(place: Option<RecordPlace>) -> Option<u64>
     ensures { result ≡ option_map (λ p. p.line) place }
 {
     match place {
@@ -196,7 +196,7 @@ fn last_between<C: Scratch>(
 
 /// Where a search goes back to from before line `end`: at most `most` lines on the page that a half holds, and by one line where
 /// that is another page.
-fn back_from(held: Option<Place>, from: u64, end: u64, most: u64) -> u64
+fn back_from(held: Option<RecordPlace>, from: u64, end: u64, most: u64) -> u64
     requires order { from < end }
     requires some { 1 ≤ most }
     ensures low { from ≤ result }

@@ -6,15 +6,15 @@ ghost use Rattle.line_store.specs.declared.Half.{Half};
 ghost use Rattle.line_store.specs.Store.{Keeps, HasCause};
 ghost use Rattle.page_pair.specs.Pair.{Pair, page_of};
 ghost use Rattle.page_pair.specs.Records.{stated};
-ghost use Rattle.packed_pages.specs.declared.places.Place.{Place};
+ghost use Rattle.packed_pages.specs.declared.places.RecordPlace.{RecordPlace};
 ghost use Rattle.packed_pages.specs.Layout.{IsLayout, page_in, place_in};
 ghost use Rattle.packed_pages.specs.Marks.{IsMark, AreMarks, AreMarked, marks_of};
 ghost use Rattle.packed_pages.specs.Held.{seen_of, place_of, line_held, IsHeld, IsOnPage, IsLoaded, HoldsPage, HoldsPacks, HoldsPageOf, HasPageOf, IsRecordFault, IfStart, ReadsAtMost, ReadsByDigits};
 ghost use Rattle.page_pair.specs.Held.{HasPageCause};
 
 use crate::layout::Layout;
-use crate::marks::{Mark, Marks};
-use crate::places::{Place, Places};
+use crate::marks::{Marks, RecordMark};
+use crate::places::{Places, RecordPlace};
 use crate::searching::find_page;
 use crate::stepping::{near, reach_near};
 use crate::walking::find_record;
@@ -61,7 +61,7 @@ fn open_page<C: Scratch>(
     layout: Layout,
     k: u64,
     half: Half,
-) -> Result<Place, LineFault>
+) -> Result<RecordPlace, LineFault>
     requires layout { IsLayout layout }
     requires packs { HoldsPacks layout (C.view scratch.old) }
     requires size { layout.size ≡ pair.old.size }
@@ -82,7 +82,7 @@ fn open_page<C: Scratch>(
         Err(fault) => return Err(fault),
     };
     match read_page(pair, scratch, layout, half, span.low) {
-        Ok(()) => Ok(Place {
+        Ok(()) => Ok(RecordPlace {
             line: span.first,
             at: 0,
             first: span.first,
@@ -95,7 +95,7 @@ fn open_page<C: Scratch>(
 
 /// A place from which line `k` is found on the page that a half holds, if that is its page: the one that the half holds, or a
 /// marked one where line `k` stands before that.
-fn held_start(places: Places, marks: &mut Marks, half: Half, k: u64) -> Option<Place>
+fn held_start(places: Places, marks: &mut Marks, half: Half, k: u64) -> Option<RecordPlace>
     ensures start { IfStart (place_of places half) (marks_of marks.old half) k result }
     ensures marked { (pair : Pair) → AreMarked pair marks.old → AreMarked pair marks.new }
 {
@@ -110,7 +110,7 @@ fn held_start(places: Places, marks: &mut Marks, half: Half, k: u64) -> Option<P
         return Some(place);
     }
     let mark = marks.back_to(half, k - place.first);
-    Some(Place {
+    Some(RecordPlace {
         line: place.first + mark.before,
         at: mark.at,
         ..place
@@ -122,7 +122,7 @@ fn find_in(
     page: &[u8],
     marks: &mut Marks,
     half: Half,
-    start: Mark,
+    start: RecordMark,
     wanted: u64,
 ) -> Result<usize, LineFault>
     requires small { length page.now ≤ 2 ^ 20 }
@@ -146,9 +146,9 @@ fn walk(
     pair: &PagePair,
     marks: &mut Marks,
     half: Half,
-    start: Place,
+    start: RecordPlace,
     k: u64,
-) -> Result<Place, LineFault>
+) -> Result<RecordPlace, LineFault>
     requires marked { AreMarked pair.now marks.old }
     requires low { start.first ≤ start.line }
     requires place { start.at ≡ place_in (start.line - start.first) (page_of pair.now half) }
@@ -160,12 +160,12 @@ fn walk(
     ensures within { IfOk result (λ p. p.at + 4 + stated (page_of pair.now half) p.at ≤ length (page_of pair.now half)) }
     ensures cause { IfErr result (λ e. IsRecordFault e (k - start.first) (page_of pair.now half)) }
 {
-    let mark = Mark {
+    let mark = RecordMark {
         before: start.line - start.first,
         at: start.at,
     };
     match find_in(pair.page(half), marks, half, mark, k - start.first) {
-        Ok(at) => Ok(Place {
+        Ok(at) => Ok(RecordPlace {
             line: k,
             at,
             ..start
@@ -183,7 +183,7 @@ fn reach<C: Scratch>(
     layout: Layout,
     k: u64,
     half: Half,
-) -> Result<Place, LineFault>
+) -> Result<RecordPlace, LineFault>
     requires held { IsHeld pair.old layout places (C.view scratch.old) }
     requires marked { AreMarked pair.old marks.old }
     requires low { 1 ≤ k }
@@ -218,7 +218,7 @@ fn find_line<C: Scratch>(
     layout: Layout,
     k: u64,
     half: Half,
-) -> Result<Place, LineFault>
+) -> Result<RecordPlace, LineFault>
     requires held { IsHeld pair.old layout places (C.view scratch.old) }
     requires marked { AreMarked pair.old marks.old }
     requires low { 1 ≤ k }
@@ -253,7 +253,7 @@ fn fetch_line<C: Scratch>(
     layout: Layout,
     k: u64,
     half: Half,
-) -> Result<Place, LineFault>
+) -> Result<RecordPlace, LineFault>
     requires held { IsHeld pair.old layout places (C.view scratch.old) }
     requires marked { AreMarked pair.old marks.old }
     requires low { 1 ≤ k }
@@ -284,7 +284,7 @@ pub fn load_line<C: Scratch>(
     layout: Layout,
     k: u64,
     half: Half,
-) -> Result<Place, LineFault>
+) -> Result<RecordPlace, LineFault>
     requires held { IsHeld pair.old layout places.old (C.view scratch.old) }
     requires marked { AreMarked pair.old marks.old }
     requires low { 1 ≤ k }

@@ -14,7 +14,7 @@ const MOST: usize = 64;
 
 /// A record of a page: how many stand before it, and its place.
 #[derive(Clone, Copy, Default)]
-pub struct Mark {
+pub struct RecordMark {
     pub before: u64,
     pub at: usize,
 }
@@ -23,8 +23,8 @@ pub struct Mark {
 /// those. The next one is kept at `from` or behind it.
 #[derive(Drop)]
 pub struct PageMarks {
-    pub far: ArrayVec<Mark, MOST>,
-    pub near: ArrayVec<Mark, MOST>,
+    pub far: ArrayVec<RecordMark, MOST>,
+    pub near: ArrayVec<RecordMark, MOST>,
     pub from: usize,
 }
 
@@ -37,7 +37,7 @@ pub struct Marks {
 }
 
 /// The place from which on a record is a far mark, where those are `spacing` bytes apart.
-fn far_place(far: &ArrayVec<Mark, MOST>, spacing: usize) -> usize {
+fn far_place(far: &ArrayVec<RecordMark, MOST>, spacing: usize) -> usize {
     match far.as_slice().last() {
         Some(mark) => mark.at.saturating_add(spacing),
         None => spacing,
@@ -45,7 +45,7 @@ fn far_place(far: &ArrayVec<Mark, MOST>, spacing: usize) -> usize {
 }
 
 /// Adds a mark, if there is room.
-fn add(marks: &mut ArrayVec<Mark, MOST>, mark: Mark)
+fn add(marks: &mut ArrayVec<RecordMark, MOST>, mark: RecordMark)
     ensures { (page : List ℕ) → IsMark page mark → All (IsMark page) marks.old.items → All (IsMark page) marks.new.items }
 {
     if !marks.is_full() {
@@ -54,7 +54,7 @@ fn add(marks: &mut ArrayVec<Mark, MOST>, mark: Mark)
 }
 
 /// Keeps a record that a walk reaches. The spacings are such that a page's marks don't run out of room.
-pub fn keep(page: &[u8], marks: &mut PageMarks, mark: Mark)
+pub fn keep(page: &[u8], marks: &mut PageMarks, mark: RecordMark)
     requires is { IsMark page.now mark }
     requires marks { AreMarks page.now marks.old }
     ensures { AreMarks page.now marks.new }
@@ -74,7 +74,7 @@ pub fn keep(page: &[u8], marks: &mut PageMarks, mark: Mark)
 }
 
 /// Drops the marks that have more records before them, and gives the last one that is left.
-fn last_within(marks: &mut ArrayVec<Mark, MOST>, before: u64) -> Option<Mark>
+fn last_within(marks: &mut ArrayVec<RecordMark, MOST>, before: u64) -> Option<RecordMark>
     ensures order { IfSome result (λ mark. mark.before ≤ before) }
     ensures is { (page : List ℕ) → All (IsMark page) marks.old.items → IfSome result (IsMark page) }
     ensures kept { (page : List ℕ) → All (IsMark page) marks.old.items → All (IsMark page) marks.new.items }
@@ -89,7 +89,7 @@ fn last_within(marks: &mut ArrayVec<Mark, MOST>, before: u64) -> Option<Mark>
 }
 
 /// The last mark that is left, near or far, or the page's first record.
-fn within(marks: &mut PageMarks, before: u64) -> Mark
+fn within(marks: &mut PageMarks, before: u64) -> RecordMark
     ensures order { result.before ≤ before }
     ensures is { (page : List ℕ) → AreMarks page marks.old → IsMark page result }
     ensures kept { (page : List ℕ) → AreMarks page marks.old → AreMarks page marks.new }
@@ -99,13 +99,13 @@ fn within(marks: &mut PageMarks, before: u64) -> Mark
     }
     match last_within(&mut marks.far, before) {
         Some(mark) => mark,
-        None => Mark { before: 0, at: 0 },
+        None => RecordMark { before: 0, at: 0 },
     }
 }
 
 /// Drops the marks that have more records before them. The answer is the last one that is left, or the page's first record.
 /// Near marks are kept from it on.
-fn back_to(marks: &mut PageMarks, before: u64) -> Mark
+fn back_to(marks: &mut PageMarks, before: u64) -> RecordMark
     ensures order { result.before ≤ before }
     ensures is { (page : List ℕ) → AreMarks page marks.old → IsMark page result }
     ensures kept { (page : List ℕ) → AreMarks page marks.old → AreMarks page marks.new }
@@ -161,7 +161,7 @@ impl Marks {
 
     /// Drops the marks of a half that have more records before them. The answer is the last one that is left, or the first
     /// record of the page.
-    pub fn back_to(&mut self, half: Half, before: u64) -> Mark
+    pub fn back_to(&mut self, half: Half, before: u64) -> RecordMark
         ensures order { result.before ≤ before }
         ensures is { (page : List ℕ) → AreMarks page (marks_of self.old half) → IsMark page result }
         ensures marked { (pair : Pair) → AreMarked pair self.old → AreMarked pair self.new }

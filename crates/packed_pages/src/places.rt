@@ -10,7 +10,7 @@ use line_store::Half;
 
 /// A line and the place of its record on a page, whose lines go from `first` up to before `next`.
 #[derive(Clone, Copy)]
-pub struct Place {
+pub struct RecordPlace {
     pub line: u64,
     pub at: usize,
     pub first: u64,
@@ -21,8 +21,8 @@ pub struct Place {
 /// The place of the line that each half holds.
 #[derive(Clone, Copy)]
 pub struct Places {
-    pub first: Option<Place>,
-    pub second: Option<Place>,
+    pub first: Option<RecordPlace>,
+    pub second: Option<RecordPlace>,
 }
 
 impl Places {
@@ -35,7 +35,7 @@ impl Places {
         }
     }
 
-    pub fn get(&self, half: Half) -> Option<Place>
+    pub fn get(&self, half: Half) -> Option<RecordPlace>
         ensures { result ≡ place_of self.now half }
     {
         match half {
@@ -44,7 +44,7 @@ impl Places {
         }
     }
 
-    pub fn set(&mut self, half: Half, held: Option<Place>)
+    pub fn set(&mut self, half: Half, held: Option<RecordPlace>)
         ensures held { place_of self.new half ≡ held }
         ensures other { (h : Half) → h ≢ half → place_of self.new h ≡ place_of self.old h }
     {
@@ -66,11 +66,11 @@ impl Places {
     }
 }
 
-fn moved(held: Option<Place>, k: u64, at: usize) -> Option<Place>
+fn moved(held: Option<RecordPlace>, k: u64, at: usize) -> Option<RecordPlace>
     ensures { result ≡ option_map (moved k at) held }
 {
     match held {
-        Some(place) => Some(Place {
+        Some(place) => Some(RecordPlace {
             line: k,
             at,
             ..place

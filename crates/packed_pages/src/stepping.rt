@@ -2,19 +2,19 @@
 
 ghost use Rattle.std.specs.Prelude.{◌≡◌, ◌≤◌, ◌<◌, ◌+◌, ◌^◌, IsTrue, ◌↔◌, ℕ, List, length, None, Some, IfSome};
 ghost use Rattle.page_pair.specs.Records.{stated, line_in};
-ghost use Rattle.packed_pages.specs.declared.places.Place.{Place};
+ghost use Rattle.packed_pages.specs.declared.places.RecordPlace.{RecordPlace};
 ghost use Rattle.packed_pages.specs.Steps.{IsWhole, Follows, IfNear, Misses, IfLast, IfReaches};
 ghost use Rattle.page_pair.specs.Alike.{TellsAlike};
 ghost use Rattle.packed_pages.specs.Held.{place_of};
 
-use crate::places::{Place, Places};
+use crate::places::{Places, RecordPlace};
 use line_store::Half;
 use page_pair::record::{line_of, stated_length};
 
 /// The records of a page up to one that is alike, or to the last that was looked at.
 #[derive(Clone, Copy)]
 pub struct Pass {
-    pub place: Place,
+    pub place: RecordPlace,
     pub is_alike: bool,
 }
 
@@ -32,7 +32,7 @@ fn is_whole(page: &[u8], at: usize) -> bool
 }
 
 /// The place behind one, if its record is whole.
-pub fn next_on(page: &[u8], place: Place) -> Option<Place>
+pub fn next_on(page: &[u8], place: RecordPlace) -> Option<RecordPlace>
     requires small { length page.now ≤ 2 ^ 20 }
     requires whole { IsWhole page.now place }
     requires few { place.line + 1 < place.next }
@@ -41,7 +41,7 @@ pub fn next_on(page: &[u8], place: Place) -> Option<Place>
 {
     let at = place.at + 4 + stated_length(page, place.at) as usize;
     if is_whole(page, at) {
-        return Some(Place {
+        return Some(RecordPlace {
             line: place.line + 1,
             at,
             ..place
@@ -51,10 +51,10 @@ pub fn next_on(page: &[u8], place: Place) -> Option<Place>
 }
 
 /// The place of line `k`, where a half holds it or the line before it on the same page.
-pub fn near(page: &[u8], held: Option<Place>, k: u64) -> Option<Place>
+pub fn near(page: &[u8], held: Option<RecordPlace>, k: u64) -> Option<RecordPlace>
     requires small { length page.now ≤ 2 ^ 20 }
-    requires whole { (p : Place) → held ≡ Some p → IsWhole page.now p }
-    requires within { (p : Place) → held ≡ Some p → p.line < p.next }
+    requires whole { (p : RecordPlace) → held ≡ Some p → IsWhole page.now p }
+    requires within { (p : RecordPlace) → held ≡ Some p → p.line < p.next }
     ensures { IfNear page.now held k result }
 {
     let place = match held {
@@ -71,7 +71,7 @@ pub fn near(page: &[u8], held: Option<Place>, k: u64) -> Option<Place>
 }
 
 /// Where line `k` stands, if it is the line of a place or the one behind it on the same page.
-fn reach_from(page: &[u8], place: &Place, k: u64) -> Option<usize>
+fn reach_from(page: &[u8], place: &RecordPlace, k: u64) -> Option<usize>
     requires small { length page.now ≤ 2 ^ 20 }
     requires whole { IsWhole page.now place.now }
     requires within { place.now.line < place.now.next }
@@ -91,10 +91,10 @@ fn reach_from(page: &[u8], place: &Place, k: u64) -> Option<usize>
 }
 
 /// The same for a place that may be none.
-fn reach_in(page: &[u8], held: &Option<Place>, k: u64) -> Option<usize>
+fn reach_in(page: &[u8], held: &Option<RecordPlace>, k: u64) -> Option<usize>
     requires small { length page.now ≤ 2 ^ 20 }
-    requires whole { (p : Place) → held.now ≡ Some p → IsWhole page.now p }
-    requires within { (p : Place) → held.now ≡ Some p → p.line < p.next }
+    requires whole { (p : RecordPlace) → held.now ≡ Some p → IsWhole page.now p }
+    requires within { (p : RecordPlace) → held.now ≡ Some p → p.line < p.next }
     ensures { IfReaches page.now held.now k result }
 {
     match held {
@@ -106,8 +106,8 @@ fn reach_in(page: &[u8], held: &Option<Place>, k: u64) -> Option<usize>
 /// Where line `k` stands, if a half holds it or the line before it on the same page.
 pub fn reach_near(page: &[u8], places: &Places, half: Half, k: u64) -> Option<usize>
     requires small { length page.now ≤ 2 ^ 20 }
-    requires whole { (p : Place) → place_of places.now half ≡ Some p → IsWhole page.now p }
-    requires within { (p : Place) → place_of places.now half ≡ Some p → p.line < p.next }
+    requires whole { (p : RecordPlace) → place_of places.now half ≡ Some p → IsWhole page.now p }
+    requires within { (p : RecordPlace) → place_of places.now half ≡ Some p → p.line < p.next }
     ensures { IfReaches page.now (place_of places.now half) k result }
 {
     match half {
@@ -140,7 +140,7 @@ fn is_alike(page: &[u8], at: usize, line: &[u8]) -> bool
 
 /// Goes on from a place to the first record that holds this line, at most up to before line `to`. It stops before a record
 /// that isn't whole.
-pub fn first_pass(page: &[u8], start: Place, to: u64, line: &[u8]) -> Pass
+pub fn first_pass(page: &[u8], start: RecordPlace, to: u64, line: &[u8]) -> Pass
     requires small { length page.now ≤ 2 ^ 20 }
     requires whole { IsWhole page.now start }
     requires within { start.line < start.next }
@@ -178,14 +178,19 @@ pub fn first_pass(page: &[u8], start: Place, to: u64, line: &[u8]) -> Pass
 /// The records of a page up to one, and the last of them that is alike.
 #[derive(Clone, Copy)]
 pub struct LastPass {
-    pub place: Place,
-    pub alike: Option<Place>,
+    pub place: RecordPlace,
+    pub alike: Option<RecordPlace>,
 }
 
 /// This place, if its record holds the line, and else the one that was alike before.
-fn later(page: &[u8], place: Place, alike: Option<Place>, line: &[u8]) -> Option<Place>
+fn later(
+    page: &[u8],
+    place: RecordPlace,
+    alike: Option<RecordPlace>,
+    line: &[u8],
+) -> Option<RecordPlace>
     requires whole { IsWhole page.now place }
-    ensures { (start : Place) → Follows page.now start place → IfLast page.now start line.now place.line alike → IfLast page.now start line.now (place.line + 1) result }
+    ensures { (start : RecordPlace) → Follows page.now start place → IfLast page.now start line.now place.line alike → IfLast page.now start line.now (place.line + 1) result }
 {
     if is_alike(page, place.at, line) {
         return Some(place);
@@ -194,7 +199,7 @@ fn later(page: &[u8], place: Place, alike: Option<Place>, line: &[u8]) -> Option
 }
 
 /// Goes on from a place up to before line `to`. It stops before a record that isn't whole.
-pub fn last_pass(page: &[u8], start: Place, to: u64, line: &[u8]) -> LastPass
+pub fn last_pass(page: &[u8], start: RecordPlace, to: u64, line: &[u8]) -> LastPass
     requires small { length page.now ≤ 2 ^ 20 }
     requires whole { IsWhole page.now start }
     requires within { start.line < start.next }

@@ -6,7 +6,7 @@ ghost use Rattle.packed_pages.specs.Layout.{place_in};
 ghost use Rattle.packed_pages.specs.Marks.{IsMark, AreMarks};
 ghost use Rattle.packed_pages.specs.Held.{IsRecordFault, IsPastEnd};
 
-use crate::marks::{Mark, PageMarks, keep};
+use crate::marks::{PageMarks, RecordMark, keep};
 use line_store::LineFault;
 use page_pair::record::stated_length;
 
@@ -41,7 +41,7 @@ fn record_end(page: &[u8], at: usize) -> Result<usize, LineFault>
 pub fn find_record(
     page: &[u8],
     marks: &mut PageMarks,
-    start: Mark,
+    start: RecordMark,
     wanted: u64,
 ) -> Result<usize, LineFault>
     requires small { length page.now ≤ 2 ^ 20 }
@@ -55,7 +55,7 @@ pub fn find_record(
 {
     let mut now = start;
     while now.before < wanted {
-        now = Mark {
+        now = RecordMark {
             before: now.before + 1,
             at: record_end(page, now.at)?,
         };

@@ -12,25 +12,25 @@ use Rattle.outside.specs.SinkView.{SinkView}
 use Rattle.outside.proofs.Views.{rises_then}
 use Rattle.hunk_core.specs.Reading.{Fault}
 use Rattle.hunk_core.specs.declared.Verdict.TheVariants.{Untried}
-use Rattle.file_patch.specs.PlainPatch.{PlainPatch, patch_of}
+use Rattle.read_file_patch.specs.PlainPatch.{PlainPatch, patch_of}
 use Rattle.patch_options.specs.PlainJob.{PlainOptions, PlainJob, IsLawful}
 use Rattle.patch_options.specs.PlainJob.PlainJob.{patch}
 use Rattle.patch_options.specs.declared.options.Input.{Input}
 use Rattle.patch_options.specs.declared.options.Input.TheVariants.{Standard, File}
 use Rattle.patch_options.specs.declared.options.WordFault.{WordFault}
-use Rattle.run_answers.specs.Input as input
-use Rattle.run_answers.specs.declared.fault.InputFault.{InputFault}
-use Rattle.patch_text.specs.Patches.{patches_of}
+use Rattle.cli_run_answers.specs.Input as input
+use Rattle.cli_run_answers.specs.declared.fault.InputFault.{InputFault}
+use Rattle.read_patch_text.specs.Patches.{patches_of}
 use Rattle.patch_set.specs.Asked.{ways_of}
-use Rattle.clean_text.specs.Reading.{clean_of}
+use Rattle.read_clean_text.specs.Reading.{clean_of}
 use Rattle.patch_set.specs.Refusals.{refusal}
 use Rattle.patch_set.specs.SetView.{SetView, plain_patches, hunks_in, IsRead, IsFresh}
 use Rattle.patch_run.specs.Run.{Run, set_run}
-use Rattle.run_answers.specs.declared.why.Why.{Why}
-use Rattle.run_answers.specs.declared.why.Why.TheVariants.{Done, Rejected, Usage, Malformed, Garbage, EdReverse, OutMany, Reserved, NoPatchFile, TooLong, LongLine, FileTooLong, BadPattern, NoContext, Unfit, BadState, StackEnd, StackName, ReadFault, WriteFault, TreeFault, ScratchFault, Disagree, Memory}
+use Rattle.cli_run_answers.specs.declared.why.Why.{Why}
+use Rattle.cli_run_answers.specs.declared.why.Why.TheVariants.{Done, Rejected, Usage, Malformed, Garbage, EdReverse, OutMany, Reserved, NoPatchFile, TooLong, LongLine, FileTooLong, BadPattern, NoContext, Unfit, BadState, StackEnd, StackName, ReadFault, WriteFault, TreeFault, ScratchFault, Disagree, Memory}
 use Rattle.patch_run.specs.Outcome.{carried_out}
 use Rattle.patch_run.proofs.Ready.{read_names}
-use Rattle.backup_numbers.specs.Numbering.{asks_numbers}
+use Rattle.apply_backup_numbers.specs.Numbering.{asks_numbers}
 use Rattle.patch_cli.specs.Numbered.{IsMade, numbered_run}
 use Rattle.patch_cli.specs.Damaged.{has_damaged}
 use Rattle.patch_cli.proofs.Named.{names-made, long-made, damaged-made}
@@ -39,7 +39,7 @@ use Rattle.patch_cli.specs.Returns.{strips_returns, first_said}
 use Rattle.patch_cli.specs.Command.{Reads, bad_where, behind, on_patches, on_refusal, on_input, on_job}
 use Rattle.patch_cli.specs.Worlds.{World, world, TellsFiles, TellsLeft, TellsInput, is_standard}
 use Rattle.patch_run.specs.Finishes.{CanApply}
-use Rattle.run_answers.specs.Moments.{Opens}
+use Rattle.cli_run_answers.specs.Moments.{Opens}
 use Rattle.patch_cli.specs.Opening.{IsAsked, EndsSo, StopsEarly}
 
 -- ---- the input

@@ -17,21 +17,21 @@ use Rattle.patch_options.specs.PlainJob.PlainJob.{patch}
 use Rattle.patch_options.specs.Words.{job_of}
 use Rattle.patch_options.specs.declared.options.WordFault.{WordFault}
 use Rattle.patch_set.specs.SetView.{SetView, plain_patches}
-use Rattle.run_answers.specs.Input.{TakesAtMost}
+use Rattle.cli_run_answers.specs.Input.{TakesAtMost}
 use Rattle.patch_run.specs.Applied.{Receipt}
 use Rattle.patch_run.specs.Run.{Run, items_of, set_run}
 use Rattle.patch_run.specs.Doing as doing
-use Rattle.patch_task.specs.Faults.{of_open}
-use Rattle.patch_task.specs.Making.{IsTidy, UnlessFailed}
-use Rattle.patch_task.specs.declared.fault.RunFault.{RunFault}
-use Rattle.patch_task.specs.declared.fault.RunFault.TheVariants as runs
-use Rattle.run_answers.specs.declared.why.Why.{Why}
-use Rattle.run_answers.specs.declared.why.Why.TheVariants.{Done, Rejected, Usage, Malformed, Garbage, EdReverse, OutMany, Reserved, NoPatchFile, TooLong, LongLine, FileTooLong, BadPattern, NoContext, Unfit, BadState, StackEnd, StackName, ReadFault, WriteFault, TreeFault, ScratchFault, Disagree, Memory}
-use Rattle.run_answers.specs.Answers.{is_fault, of_run}
-use Rattle.run_answers.specs.Moments.{FirstPart, IsAsAtEntry, LeavesAllowed, Opens}
+use Rattle.apply_task.specs.Faults.{of_open}
+use Rattle.apply_task.specs.Making.{IsTidy, UnlessFailed}
+use Rattle.apply_task.specs.declared.fault.RunFault.{RunFault}
+use Rattle.apply_task.specs.declared.fault.RunFault.TheVariants as runs
+use Rattle.cli_run_answers.specs.declared.why.Why.{Why}
+use Rattle.cli_run_answers.specs.declared.why.Why.TheVariants.{Done, Rejected, Usage, Malformed, Garbage, EdReverse, OutMany, Reserved, NoPatchFile, TooLong, LongLine, FileTooLong, BadPattern, NoContext, Unfit, BadState, StackEnd, StackName, ReadFault, WriteFault, TreeFault, ScratchFault, Disagree, Memory}
+use Rattle.cli_run_answers.specs.Answers.{is_fault, of_run}
+use Rattle.cli_run_answers.specs.Moments.{FirstPart, IsAsAtEntry, LeavesAllowed, Opens}
 use Rattle.patch_run.specs.Outcome.{Outcome, carried_out, end_of, receipt_if}
 use Rattle.patch_run.specs.Answer.{IsAnswer}
-use Rattle.backup_numbers.specs.Numbering.{asks_numbers}
+use Rattle.apply_backup_numbers.specs.Numbering.{asks_numbers}
 use Rattle.patch_cli.specs.Numbered.{IsMade}
 use Rattle.patch_cli.proofs.Numbered.{cut-made}
 use Rattle.patch_run.proofs.Entry.{nothing_yet}
@@ -48,7 +48,7 @@ use Rattle.patch_run.specs.Finishes.{IsToldTo, HasPlanCause, Finishes}
 use Rattle.patch_run.specs.Finishes as finishes
 use Rattle.patch_cli.specs.Opening.{IsAsked}
 use Rattle.patch_cli.specs.Carries.{Answers, Untouched, QuietAfter, IsEnd, HasRead, Heeds, HasBegun, HasSaidFirst, IsCut, BreaksOff, Carries, NoneFailed, IsComplete}
-use Rattle.run_answers.proofs.Opens.{opens_both, opens_untouched, tidy_behind}
+use Rattle.cli_run_answers.proofs.Opens.{opens_both, opens_untouched, tidy_behind}
 use Rattle.patch_cli.proofs.Asked.{tells_input, carried-match}
 use Rattle.patch_cli.proofs.Stripping.{Begins, loud}
 

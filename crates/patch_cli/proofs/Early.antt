@@ -7,10 +7,10 @@ use Rattle.outside.specs.ScratchView.{ScratchView, ScratchPasses, scratch_passes
 use Rattle.patch_options.specs.PlainJob.{PlainJob}
 use Rattle.patch_options.specs.Words.{job_of}
 use Rattle.patch_options.specs.declared.options.WordFault.{WordFault}
-use Rattle.run_answers.specs.Input.{TakesAtMost}
-use Rattle.run_answers.specs.declared.why.Why.{Why}
-use Rattle.run_answers.specs.declared.why.Why.TheVariants.{Done, Rejected, Usage, Malformed, Garbage, EdReverse, OutMany, Reserved, NoPatchFile, TooLong, LongLine, FileTooLong, BadPattern, NoContext, Unfit, BadState, StackEnd, StackName, ReadFault, WriteFault, TreeFault, ScratchFault, Disagree, Memory}
-use Rattle.run_answers.specs.Moments.{IsAsAtEntry, Opens}
+use Rattle.cli_run_answers.specs.Input.{TakesAtMost}
+use Rattle.cli_run_answers.specs.declared.why.Why.{Why}
+use Rattle.cli_run_answers.specs.declared.why.Why.TheVariants.{Done, Rejected, Usage, Malformed, Garbage, EdReverse, OutMany, Reserved, NoPatchFile, TooLong, LongLine, FileTooLong, BadPattern, NoContext, Unfit, BadState, StackEnd, StackName, ReadFault, WriteFault, TreeFault, ScratchFault, Disagree, Memory}
+use Rattle.cli_run_answers.specs.Moments.{IsAsAtEntry, Opens}
 use Rattle.patch_run.specs.Outcome.{Outcome}
 use Rattle.patch_run.specs.Answer.{HasReceipt, IsAnswer}
 use Rattle.patch_run.proofs.Entry.{nothing_yet, refused_so}
@@ -20,7 +20,7 @@ use Rattle.patch_cli.specs.Command.{on_job}
 use Rattle.patch_cli.specs.Worlds.{World, TellsFiles, TellsLeft, TellsInput, reads_source}
 use Rattle.patch_cli.specs.Opening.{StopsBy, StopsEarly}
 use Rattle.patch_cli.specs.Carries.{Answers, Untouched, QuietAfter, IsBehindReading, IsEnd, Heeds, BreaksOff, Carries}
-use Rattle.run_answers.proofs.Opens.{tidy_same}
+use Rattle.cli_run_answers.proofs.Opens.{tidy_same}
 use Rattle.patch_cli.proofs.Asked.{tells_input}
 
 no_receipt : (why : Why) (job : Result PlainJob WordFault) (u : World) → StopsBy (sort_of why) why job u → HasReceipt why None

@@ -10,15 +10,15 @@ use Rattle.num_text.specs.Numbers.{decimal}
 use Rattle.outside.specs.Files.{Files, is_temp}
 use Rattle.outside.specs.Numbered.{numbered}
 use Rattle.outside.proofs.Names.{temp_of_is_temp}
-use Rattle.file_patch.specs.declared.FilePatch.{FilePatch}
-use Rattle.file_patch.specs.declared.derived.Target.{Target}
+use Rattle.read_file_patch.specs.declared.FilePatch.{FilePatch}
+use Rattle.read_file_patch.specs.declared.derived.Target.{Target}
 use Rattle.patch_options.specs.declared.options.BackupNumbers.{BackupNumbers}
 use Rattle.patch_set.specs.SetView.{SetView}
-use Rattle.patch_task.specs.Named.{IsNamed}
+use Rattle.apply_task.specs.Named.{IsNamed}
 use Rattle.patch_run.specs.Finishes.{HasNames}
-use Rattle.backup_numbers.specs.Numbering.{with_number}
-use Rattle.backup_numbers.specs.Renumbered.{Each, IsNumbered, IsNumberedIf, IsRetargeted}
-use Rattle.backup_numbers.proofs.Each.{each-long}
+use Rattle.apply_backup_numbers.specs.Numbering.{with_number}
+use Rattle.apply_backup_numbers.specs.Renumbered.{Each, IsNumbered, IsNumberedIf, IsRetargeted}
+use Rattle.apply_backup_numbers.proofs.Each.{each-long}
 use Rattle.patch_cli.specs.Numbered.{IsMade}
 use Rattle.patch_cli.specs.Damaged.{has_damaged}
 

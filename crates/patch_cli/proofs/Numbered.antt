@@ -4,25 +4,25 @@ use Rattle.std.specs.Prelude.{option_map}
 use Rattle.outside.specs.Files.{Files}
 use Rattle.outside.specs.TreeView.{TreeView}
 use Rattle.outside.specs.SinkView.{SinkView}
-use Rattle.file_patch.specs.Actions.{is_moved}
-use Rattle.file_patch.specs.PlainPatch.{PlainPatch, patch_of}
-use Rattle.file_patch.specs.declared.FilePatch.{FilePatch}
-use Rattle.file_patch.specs.declared.derived.Target.{Target}
+use Rattle.read_file_patch.specs.Actions.{is_moved}
+use Rattle.read_file_patch.specs.PlainPatch.{PlainPatch, patch_of}
+use Rattle.read_file_patch.specs.declared.FilePatch.{FilePatch}
+use Rattle.read_file_patch.specs.declared.derived.Target.{Target}
 use Rattle.patch_options.specs.PlainJob.{PlainOptions}
 use Rattle.patch_options.specs.declared.options.BackupNumbers.{BackupNumbers}
 use Rattle.patch_set.specs.Named.{known_names, output_of}
 use Rattle.patch_set.specs.Skipped.{skipped_changes}
 use Rattle.patch_set.specs.declared.skipped.BinaryChange.{BinaryChange}
 use Rattle.patch_set.specs.SetView.{SetView, IsRead, plain_patches}
-use Rattle.patch_task.specs.Ready.{moved_of}
-use Rattle.patch_task.specs.Turns.{Item}
-use Rattle.patch_task.specs.declared.fault.RunFault.{RunFault}
+use Rattle.apply_task.specs.Ready.{moved_of}
+use Rattle.apply_task.specs.Contexts.{Item}
+use Rattle.apply_task.specs.declared.fault.RunFault.{RunFault}
 use Rattle.patch_run.specs.Doing.{IsCutAt}
 use Rattle.patch_run.specs.Outcome.{items_for}
 use Rattle.patch_run.specs.Run.{run_of, set_run, item_of, moved_in, items_of}
 use Rattle.patch_run.proofs.Matching.{items-read}
-use Rattle.backup_numbers.specs.Numbering.{asks_numbers, numbered_target}
-use Rattle.backup_numbers.specs.Renumbered.{Each, IsNumbered, IsNumberedIf, IsRetargeted, IsRenumbered}
+use Rattle.apply_backup_numbers.specs.Numbering.{asks_numbers, numbered_target}
+use Rattle.apply_backup_numbers.specs.Renumbered.{Each, IsNumbered, IsNumberedIf, IsRetargeted, IsRenumbered}
 use Rattle.patch_cli.specs.Numbered.{IsMade, numbered_item, numbered_run, asked_output, asked_items}
 
 module _ (numbers : BackupNumbers) (f : Files) where

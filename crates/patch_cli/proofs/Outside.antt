@@ -3,9 +3,9 @@ use Rattle.std.proofs.Common.{◌≡◌, ℕ, ◌+◌, ◌-◌, ◌<◌, ◌≤�
 use Rattle.std.specs.List.{list_any}
 use Rattle.std.proofs.Math.Bool.{or-false}
 use Rattle.std.proofs.lemmas.List.{drop_more, drop_all, take_all}
-use Rattle.file_patch.specs.declared.FilePatch.{FilePatch}
-use Rattle.file_patch.specs.PlainPatch.{row_count}
-use Rattle.patch_text.specs.Regions.{region_of}
+use Rattle.read_file_patch.specs.declared.FilePatch.{FilePatch}
+use Rattle.read_file_patch.specs.PlainPatch.{row_count}
+use Rattle.read_patch_text.specs.Regions.{region_of}
 use Rattle.patch_set.specs.SetView.{SetView, IsWhole}
 use Rattle.patch_set.specs.Spans.{ArePlaced}
 use Rattle.patch_cli.specs.Damaged.{parts_outside, tells_damaged, has_damaged}

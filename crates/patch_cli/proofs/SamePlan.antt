@@ -6,14 +6,14 @@ use Rattle.outside.specs.Files.{Files}
 use Rattle.patch_options.specs.PlainJob.{PlainOptions}
 use Rattle.patch_options.specs.PlainJob.PlainJob.{patch}
 use Rattle.patch_options.specs.declared.options.PlanKind.{PlanKind}
-use Rattle.run_answers.specs.declared.fault.InputFault.{InputFault}
-use Rattle.run_answers.specs.Input.{input_bytes, answer_of}
-use Rattle.file_patch.specs.PlainPatch.{PlainPatch}
-use Rattle.patch_text.specs.Patches.{patches_of}
+use Rattle.cli_run_answers.specs.declared.fault.InputFault.{InputFault}
+use Rattle.cli_run_answers.specs.Input.{input_bytes, answer_of}
+use Rattle.read_file_patch.specs.PlainPatch.{PlainPatch}
+use Rattle.read_patch_text.specs.Patches.{patches_of}
 use Rattle.patch_set.specs.Asked.{ways_of}
 use Rattle.patch_set.specs.declared.fault.SetFault.{SetFault}
 use Rattle.patch_set.specs.Refusals.{refusal}
-use Rattle.clean_text.specs.Reading.{clean_of}
+use Rattle.read_clean_text.specs.Reading.{clean_of}
 use Rattle.patch_run.specs.Outcome.{carried_out, with_plan}
 use Rattle.patch_run.specs.Run.{Run, begun}
 use Rattle.patch_run.proofs.SamePlan.{refusal_same, run_same}

@@ -7,19 +7,19 @@ use Rattle.outside.specs.SinkView.{SinkView, SinkPasses, Receives, ReceivesPart}
 use Rattle.outside.specs.SourceView.{SourcePasses}
 use Rattle.outside.specs.ScratchView.{ScratchPasses}
 use Rattle.outside.specs.Quiet.{IsQuiet}
-use Rattle.file_patch.specs.PlainPatch.{PlainPatch}
+use Rattle.read_file_patch.specs.PlainPatch.{PlainPatch}
 use Rattle.patch_options.specs.PlainJob.{PlainOptions, PlainJob}
 use Rattle.patch_options.specs.Words.{job_of}
 use Rattle.patch_options.specs.declared.options.WordFault.{WordFault}
-use Rattle.run_answers.specs.Input.{TakesAtMost, input_bytes, answer_of}
+use Rattle.cli_run_answers.specs.Input.{TakesAtMost, input_bytes, answer_of}
 use Rattle.patch_run.specs.Applied.{Receipt}
 use Rattle.patch_run.specs.Doing.{IsCutAt}
-use Rattle.patch_task.specs.Making.{IsTidy}
-use Rattle.patch_task.specs.declared.fault.RunFault.{RunFault}
-use Rattle.run_answers.specs.declared.why.Why.{Why}
-use Rattle.run_answers.specs.declared.why.Why.TheVariants.{Memory}
-use Rattle.run_answers.specs.Answers.{of_run, is_fault}
-use Rattle.run_answers.specs.Moments.{FirstPart, IsAsAtEntry, LeavesAllowed, Opens}
+use Rattle.apply_task.specs.Making.{IsTidy}
+use Rattle.apply_task.specs.declared.fault.RunFault.{RunFault}
+use Rattle.cli_run_answers.specs.declared.why.Why.{Why}
+use Rattle.cli_run_answers.specs.declared.why.Why.TheVariants.{Memory}
+use Rattle.cli_run_answers.specs.Answers.{of_run, is_fault}
+use Rattle.cli_run_answers.specs.Moments.{FirstPart, IsAsAtEntry, LeavesAllowed, Opens}
 use Rattle.patch_cli.specs.Answers.{Sort, sort_of}
 use Rattle.patch_cli.specs.Answers.Sort.{ended, halted, refusal, unread, broken, starved}
 use Rattle.patch_run.specs.Scratches.{scratch_behind_all}

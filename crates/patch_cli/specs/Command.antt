@@ -3,20 +3,20 @@ use Rattle.std.specs.Prelude.{◌≡◌, ℕ, Bool, ◌||◌, List, ◌++◌, le
 use Rattle.line_list.specs.Completed.{completed}
 use Rattle.hunk_core.specs.Reading.{Fault}
 use Rattle.outside.specs.Files.{Files}
-use Rattle.file_patch.specs.PlainPatch.{PlainPatch}
+use Rattle.read_file_patch.specs.PlainPatch.{PlainPatch}
 use Rattle.patch_options.specs.PlainJob.{PlainOptions, PlainJob}
 use Rattle.patch_options.specs.PlainJob.PlainJob.{patch}
 use Rattle.patch_options.specs.Words.{job_of}
 use Rattle.patch_options.specs.declared.options.WordFault.{WordFault}
-use Rattle.run_answers.specs.declared.fault.InputFault.{InputFault}
-use Rattle.run_answers.specs.Input.{input_bytes, answer_of}
-use Rattle.patch_text.specs.Patches.{patches_of}
+use Rattle.cli_run_answers.specs.declared.fault.InputFault.{InputFault}
+use Rattle.cli_run_answers.specs.Input.{input_bytes, answer_of}
+use Rattle.read_patch_text.specs.Patches.{patches_of}
 use Rattle.patch_set.specs.Asked.{ways_of}
-use Rattle.clean_text.specs.Reading.{clean_of}
+use Rattle.read_clean_text.specs.Reading.{clean_of}
 use Rattle.patch_set.specs.declared.fault.SetFault.{SetFault}
 use Rattle.patch_set.specs.Refusals.{refusal}
-use Rattle.run_answers.specs.declared.why.Why.TheVariants.{Malformed}
-use Rattle.run_answers.specs.Answers.{of_words, of_input, of_set}
+use Rattle.cli_run_answers.specs.declared.why.Why.TheVariants.{Malformed}
+use Rattle.cli_run_answers.specs.Answers.{of_words, of_input, of_set}
 use Rattle.patch_run.specs.Run.{Run}
 use Rattle.patch_run.specs.Outcome.{Outcome, refused, carried_out}
 use Rattle.patch_cli.specs.Numbered.{numbered_run}

@@ -4,8 +4,8 @@ use Rattle.std.specs.List.{list_any}
 use Rattle.line_list.specs.Lines.{lines}
 use Rattle.hunk_core.specs.LineTests.{after}
 use Rattle.unified_form.specs.Ranges.{is_opening}
-use Rattle.patch_header.specs.declared.ways.Ways.{Ways}
-use Rattle.patch_text.specs.Regions.{Region, regions_of}
+use Rattle.patch_header.specs.declared.read_options.ReadOptions.{ReadOptions}
+use Rattle.read_patch_text.specs.Regions.{Region, regions_of}
 
 -- '@@ -' without a digit behind it
 abbrev pub is_damaged : List ℕ → Bool
@@ -20,5 +20,5 @@ abbrev pub tells_damaged : List ℕ → Bool
 tells_damaged part = list_any is_damaged (lines part)
 
 -- such a line stands outside of the file patches of a text that is read in these ways
-abbrev pub has_damaged : Ways → List ℕ → Bool
+abbrev pub has_damaged : ReadOptions → List ℕ → Bool
 has_damaged ways text = list_any tells_damaged (parts_outside text 0 (regions_of ways text))

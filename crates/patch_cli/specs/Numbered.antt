@@ -1,17 +1,17 @@
 -- The file patches of a text with the numbers that their backups get (GNU patch manual, "Backup Files").
 use Rattle.std.specs.Prelude.{◌≡◌, ℕ, List, map, Bool, true, false, if◌then◌else◌, Option, option_map}
 use Rattle.outside.specs.Files.{Files}
-use Rattle.file_patch.specs.PlainPatch.{PlainPatch}
-use Rattle.file_patch.specs.declared.derived.Target.{Target}
+use Rattle.read_file_patch.specs.PlainPatch.{PlainPatch}
+use Rattle.read_file_patch.specs.declared.derived.Target.{Target}
 use Rattle.patch_options.specs.PlainJob.{PlainOptions}
 use Rattle.patch_options.specs.declared.options.BackupNumbers.{BackupNumbers}
 use Rattle.patch_set.specs.Named.{known_names, output_of}
 use Rattle.patch_set.specs.SetView.{SetView}
-use Rattle.patch_task.specs.Turns.{Item}
+use Rattle.apply_task.specs.Contexts.{Item}
 use Rattle.patch_run.specs.Run.{Run, run_of}
 use Rattle.patch_run.specs.Outcome.{items_for}
-use Rattle.backup_numbers.specs.Numbering.{asks_numbers, numbered_target}
-use Rattle.backup_numbers.specs.Renumbered.{IsRenumbered}
+use Rattle.apply_backup_numbers.specs.Numbering.{asks_numbers, numbered_target}
+use Rattle.apply_backup_numbers.specs.Renumbered.{IsRenumbered}
 
 abbrev pub numbered_item : BackupNumbers → Files → Item → Item
 numbered_item numbers files i = record i { targets = map (numbered_target numbers files) i.targets; moved = map (λ ts. map (numbered_target numbers files) ts) i.moved }

@@ -3,7 +3,7 @@ use Rattle.std.specs.Prelude.{ℕ, Bool, not, ◌&&◌, ◌==◌, List, [], code
 use Rattle.std.specs.List.{list_any}
 use Rattle.line_list.specs.Completed.{completed}
 use Rattle.patch_options.specs.PlainJob.{PlainOptions}
-use Rattle.clean_text.specs.Reading.{clean_of}
+use Rattle.read_clean_text.specs.Reading.{clean_of}
 
 abbrev pub has_return : List ℕ → Bool
 has_return text = list_any (λ b. b == 13) text

@@ -10,7 +10,7 @@ use Rattle.patch_options.specs.PlainJob.PlainJob.{patch}
 use Rattle.patch_options.specs.declared.options.WordFault.{WordFault}
 use Rattle.patch_options.specs.declared.options.Input.{Input}
 use Rattle.patch_options.specs.declared.options.Input.TheVariants.{Standard, File}
-use Rattle.run_answers.specs.Input.{IsTold}
+use Rattle.cli_run_answers.specs.Input.{IsTold}
 use Rattle.patch_run.specs.Scratches.{has_scratch, is_paged}
 
 -- what the devices of a run are seen as at one moment

@@ -4,11 +4,11 @@ ghost use Rattle.outside.specs.Files.{Files};
 ghost use Rattle.outside.specs.SinkView.{Receives, ReceivesPart, Rises};
 ghost use Rattle.patch_options.specs.Words.{job_of};
 ghost use Rattle.patch_options.specs.declared.options.WordFault.{WordFault};
-ghost use Rattle.run_answers.specs.Answers.{exit_status, is_ended, of_words};
-ghost use Rattle.run_answers.specs.Moments.{LeavesOldOrNew};
+ghost use Rattle.cli_run_answers.specs.Answers.{exit_status, is_ended, of_words};
+ghost use Rattle.cli_run_answers.specs.Moments.{LeavesOldOrNew};
 ghost use Rattle.patch_cli.specs.Answers.{sort_of, IsEarly};
 ghost use Rattle.patch_cli.specs.Command.{command};
-ghost use Rattle.run_answers.specs.Reasons.{refusal_line};
+ghost use Rattle.cli_run_answers.specs.Reasons.{refusal_line};
 ghost use Rattle.patch_cli.specs.Worlds.{world, TellsFiles, TellsLeft, reads_source, uses_scratch};
 ghost use Rattle.patch_run.specs.Answer.{why_of, receipt_of};
 ghost use Rattle.patch_cli.specs.Carries.{Carries, NoneFailed, IsComplete};
@@ -16,9 +16,9 @@ ghost use Rattle.patch_cli.specs.Carries.{Carries, NoneFailed, IsComplete};
 use crate::damaged::has_damaged;
 use crate::opening::open;
 use crate::returns::say_stripping;
+use cli_run_answers::{Why, report};
 use outside::{Scratch, Sink, Source, Tree};
 use patch_run::{Applied, Exit, apply, exit_of};
-use run_answers::{Why, report};
 use std::alloc::Global;
 
 /// Does all that the program does. `words[0]` is the tool.

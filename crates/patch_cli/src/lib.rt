@@ -1,5 +1,5 @@
-//! All that `patch` does with its words, over any tree, scratch, source and sinks. Stands on `patch_run`, `clean_text` and
-//! `run_answers`. Begin with `src/cli.rt` (`run`), then `specs/Command.antt`.
+//! All that `patch` does with its words, over any tree, scratch, source and sinks. Stands on `patch_run`, `read_clean_text` and
+//! `cli_run_answers`. Begin with `src/cli.rt` (`run`), then `specs/Command.antt`.
 #![tactic(auto)]
 
 mod cli;
@@ -9,6 +9,6 @@ mod opening;
 mod returns;
 
 pub use cli::run;
+pub use cli_run_answers::Why;
 pub use laws::command_laws;
 pub use patch_run::{Applied, Exit};
-pub use run_answers::Why;

@@ -10,21 +10,21 @@ ghost use Rattle.patch_options.specs.PlainJob.{plain_options, IsLawful};
 ghost use Rattle.patch_options.specs.PlainJob.PlainJob.{patch};
 ghost use Rattle.patch_options.specs.Words.{job_of};
 ghost use Rattle.patch_options.specs.declared.options.WordFault.{WordFault as TheFault};
-ghost use Rattle.run_answers.specs.Input.{TakesAtMost};
-ghost use Rattle.run_answers.specs.Answers.{of_words};
+ghost use Rattle.cli_run_answers.specs.Input.{TakesAtMost};
+ghost use Rattle.cli_run_answers.specs.Answers.{of_words};
 ghost use Rattle.patch_cli.specs.Worlds.{world, is_standard, reads_source};
-ghost use Rattle.run_answers.specs.Moments.{Opens};
+ghost use Rattle.cli_run_answers.specs.Moments.{Opens};
 ghost use Rattle.patch_cli.specs.Opening.{IsAsked, StopsEarly};
-ghost use Rattle.backup_numbers.specs.Numbering.{asks_numbers};
+ghost use Rattle.apply_backup_numbers.specs.Numbering.{asks_numbers};
 ghost use Rattle.patch_cli.specs.Numbered.{IsMade};
 
 use crate::returns::{has_return, strips_returns};
-use backup_numbers::{NumberFault, asks_numbers, number_backups};
-use clean_text::read_clean;
+use apply_backup_numbers::{NumberFault, asks_numbers, number_backups};
+use cli_run_answers::{Why, read_input, settle};
 use outside::{Source, Tree};
 use patch_options::{Job, Options, read_words};
 use patch_set::PatchSet;
-use run_answers::{Why, read_input, settle};
+use read_clean_text::read_clean;
 use std::alloc::Global;
 
 /// The options, and the file patches that are to be carried out with them.

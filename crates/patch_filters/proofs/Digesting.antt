@@ -4,16 +4,16 @@ use Rattle.std.specs.Prelude.{slice_get}
 use Rattle.std.specs.List.{flat_map, zip}
 use Rattle.std.proofs.lemmas.List.{length-map}
 use Rattle.std.proofs.lemmas.Option.{same_Some}
-use Rattle.unified_form.specs.declared.skim.OldRange.{OldRange}
+use Rattle.unified_form.specs.declared.hunk_scan.OldRange.{OldRange}
 use Rattle.unified_form.specs.Skimmed.{old_range}
-use Rattle.file_patch.specs.declared.Change.{Change}
-use Rattle.file_patch.specs.declared.Change.TheVariants.{Hunks, Script}
-use Rattle.file_patch.specs.declared.FilePatch.{FilePatch}
-use Rattle.file_patch.specs.PlainPatch.{PlainChange, hunks, script, change_of}
+use Rattle.read_file_patch.specs.declared.Change.{Change}
+use Rattle.read_file_patch.specs.declared.Change.TheVariants.{Hunks, Script}
+use Rattle.read_file_patch.specs.declared.FilePatch.{FilePatch}
+use Rattle.read_file_patch.specs.PlainPatch.{PlainChange, hunks, script, change_of}
 use Rattle.hunk_core.specs.PlainHunk.{PlainHunk}
-use Rattle.patch_text.specs.Digests.{AreDigests, IsDigest, no_hunks, old_ranges, rows_in}
+use Rattle.read_patch_text.specs.Digests.{AreDigests, IsDigest, no_hunks, old_ranges, rows_in}
 use Rattle.filter_choice.specs.Digested.{DigestView}
-use Rattle.tool_words.specs.PlainJobs.{PlainFilterJob}
+use Rattle.cli_tool_words.specs.PlainJobs.{PlainFilterJob}
 use Rattle.patch_filters.specs.Digested.{digest_kept, digest_if_taken, filtered_digest, olds_by, range_numbers}
 use Rattle.filter_choice.specs.OldLines.{from_to, old_numbers, old_of_each}
 use Rattle.filter_choice.specs.Selected.{numbered}

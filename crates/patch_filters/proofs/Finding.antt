@@ -11,9 +11,9 @@ use Rattle.outside.specs.Puts.{Puts}
 use Rattle.outside.proofs.SinkSteps.{HasPut, GoesOn, has-more, has-none}
 use Rattle.patch_filters.specs.declared.fault.GrepFault.{GrepFault}
 use Rattle.patch_filters.specs.declared.fault.GrepFault.TheVariants.{Pattern, Write, Memory}
-use Rattle.file_patch.specs.declared.FilePatch.{FilePatch}
-use Rattle.tool_words.specs.PlainJobs.{PlainGrepJob}
-use Rattle.tool_words.specs.declared.jobs.GrepOut.{GrepOut}
+use Rattle.read_file_patch.specs.declared.FilePatch.{FilePatch}
+use Rattle.cli_tool_words.specs.PlainJobs.{PlainGrepJob}
+use Rattle.cli_tool_words.specs.declared.jobs.GrepOut.{GrepOut}
 use Rattle.patch_filters.specs.Grepped.{IsAsked, IsFindFault, IsPatternFault, HasGrepCause, Finds, found_text, test_by, test_of}
 use Rattle.patch_filters.proofs.Searching.{asked-none, asked-both, same-test}
 use Rattle.outside.proofs.Loops.{up_to, one-more, both}

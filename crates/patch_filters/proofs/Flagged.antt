@@ -6,7 +6,7 @@ use Rattle.std.proofs.lemmas.List.{length-map}
 use Rattle.std.proofs.lemmas.Option.{get_or_from_slice_get, slice_get-get_or, slice_get-map}
 use Rattle.line_list.specs.declared.Span.{Span}
 use Rattle.hunk_core.specs.PlainHunk.{bytes_at}
-use Rattle.file_patch.specs.declared.FilePatch.{FilePatch}
+use Rattle.read_file_patch.specs.declared.FilePatch.{FilePatch}
 use Rattle.filter_choice.proofs.Rows.{zip-at, zip-count}
 use Rattle.patch_filters.specs.Filtered.{pieces}
 

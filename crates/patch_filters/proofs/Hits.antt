@@ -15,15 +15,15 @@ use Rattle.hunk_core.specs.PlainHunk.{Marked, bytes_at, marked_of, body_of, hunk
 use Rattle.ed_form.specs.declared.script.EdEdit.{EdEdit}
 use Rattle.ed_form.specs.PlainEdit.{PlainEdit, edit_of, edits_of, lines_of}
 use Rattle.ed_form.specs.declared.script.EdScript.{EdScript}
-use Rattle.file_patch.specs.declared.Change.{Change}
-use Rattle.file_patch.specs.declared.Change.TheVariants.{Hunks, Script}
-use Rattle.file_patch.specs.declared.FilePatch.{FilePatch}
-use Rattle.file_patch.specs.PlainPatch.{IsLawfulChange, PlainChange, hunks, script, change_of, hunk_count, row_count, patch_of}
+use Rattle.read_file_patch.specs.declared.Change.{Change}
+use Rattle.read_file_patch.specs.declared.Change.TheVariants.{Hunks, Script}
+use Rattle.read_file_patch.specs.declared.FilePatch.{FilePatch}
+use Rattle.read_file_patch.specs.PlainPatch.{IsLawfulChange, PlainChange, hunks, script, change_of, hunk_count, row_count, patch_of}
 use Rattle.patch_set.specs.SetView.{SetView}
 use Rattle.patch_set.specs.Spans.{IsPlaced}
 use Rattle.patch_set.proofs.Named.{rows-counted}
-use Rattle.tool_words.specs.PlainJobs.{PlainGrepJob}
-use Rattle.tool_words.specs.declared.jobs.Searched.{Searched}
+use Rattle.cli_tool_words.specs.PlainJobs.{PlainGrepJob}
+use Rattle.cli_tool_words.specs.declared.jobs.Searched.{Searched}
 use Rattle.hunk_core.specs.declared.Mark.TheVariants.{Add}
 use Rattle.patch_header.specs.Content.{content}
 use Rattle.patch_filters.specs.Filtered.{pieces, text_if}

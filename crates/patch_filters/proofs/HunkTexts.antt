@@ -5,7 +5,7 @@ use Rattle.std.specs.List.{flat_map, range_with_len, zip}
 use Rattle.std.proofs.lemmas.List.{at_drop_all, at_drop_more, drop_all}
 use Rattle.std.proofs.lemmas.List.FromFn.{get_or-range_with_len, length-range_with_len}
 use Rattle.std.proofs.lemmas.Option.{get_or_from_slice_get, slice_get-get_or, slice_get-map}
-use Rattle.file_patch.specs.declared.FilePatch.{FilePatch}
+use Rattle.read_file_patch.specs.declared.FilePatch.{FilePatch}
 use Rattle.filter_choice.proofs.Rows.{zip-at, zip-count}
 use Rattle.std.proofs.lemmas.List.{append-nil, length-map}
 use Rattle.std.proofs.lemmas.List.Sums.{sum_by-cons}
@@ -16,8 +16,8 @@ use Rattle.hunk_core.specs.declared.Hunk.{Hunk}
 use Rattle.hunk_core.specs.declared.HunkLine.{HunkLine}
 use Rattle.hunk_core.specs.declared.Side.{Side}
 use Rattle.hunk_core.specs.declared.Side.TheVariants.{Forward, Reversed}
-use Rattle.tool_words.specs.declared.jobs.Numbered.{Numbered}
-use Rattle.tool_words.specs.declared.jobs.GrepOut.{GrepOut}
+use Rattle.cli_tool_words.specs.declared.jobs.Numbered.{Numbered}
+use Rattle.cli_tool_words.specs.declared.jobs.GrepOut.{GrepOut}
 use Rattle.patch_filters.specs.Grepped.{is_whole, written_flags}
 use Rattle.patch_filters.specs.Told.{left_out, line_if, next_if, numbered_from, numbered_hunks, numbered_if}
 

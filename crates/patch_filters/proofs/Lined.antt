@@ -7,7 +7,7 @@ use Rattle.hunk_core.specs.Sides.{is_on_side}
 use Rattle.hunk_core.specs.declared.Hunk.{Hunk}
 use Rattle.hunk_core.specs.declared.Side.{Side}
 use Rattle.hunk_core.specs.PlainHunk.{Marked, hunk_of, hunks_of, marked_of}
-use Rattle.file_patch.specs.PlainPatch.{hunks}
+use Rattle.read_file_patch.specs.PlainPatch.{hunks}
 use Rattle.filter_choice.proofs.Rows.{any-map}
 use Rattle.patch_filters.specs.Listed.{has_line, has_no_line}
 

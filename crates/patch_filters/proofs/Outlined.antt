@@ -4,12 +4,12 @@ use Rattle.std.specs.Prelude.{◌&&◌, ◌||◌, codes, filter, if◌then◌els
 use Rattle.std.specs.List.{flat_map, range_with_len, zip}
 use Rattle.hunk_core.specs.declared.Side.{Side}
 use Rattle.hunk_core.specs.declared.Side.TheVariants.{Forward, Reversed}
-use Rattle.file_patch.specs.PlainPatch.{PlainChange, PlainPatch, hunks, script}
-use Rattle.file_patch.specs.Actions.{is_moved}
-use Rattle.file_patch.specs.Absent.{is_absent, is_empty_on, is_epoch, is_null, is_said_absent, name_on, stamp_on}
-use Rattle.patch_text.specs.Outlines.{only_hunk, outline}
+use Rattle.read_file_patch.specs.PlainPatch.{PlainChange, PlainPatch, hunks, script}
+use Rattle.read_file_patch.specs.Actions.{is_moved}
+use Rattle.read_file_patch.specs.Absent.{is_absent, is_empty_on, is_epoch, is_null, is_said_absent, name_on, stamp_on}
+use Rattle.read_patch_text.specs.Outlines.{only_hunk, outline}
 use Rattle.patch_set.specs.PlainName.{plain_name}
-use Rattle.tool_words.specs.PlainJobs.{PlainListJob}
+use Rattle.cli_tool_words.specs.PlainJobs.{PlainListJob}
 use Rattle.filter_choice.specs.Shown.{shown_name}
 use Rattle.patch_filters.specs.Listed.{file_number, file_text, is_gone, is_listed, list_line, listed, number_text, sign}
 

@@ -1,12 +1,12 @@
 -- What is listed and written, one file patch behind the other.
 use Rattle.std.proofs.Common.{◌≡◌, ℕ, List, Option, ◌++◌, append_assoc, codes, sym, ap, ◌∙◌}
 use Rattle.std.specs.List.{flat_map}
-use Rattle.file_patch.specs.Stripped.{shortened}
-use Rattle.file_patch.specs.declared.FilePatch.{FilePatch}
-use Rattle.file_patch.specs.PlainPatch.{PlainPatch, header_of, patch_of}
+use Rattle.read_file_patch.specs.Stripped.{shortened}
+use Rattle.read_file_patch.specs.declared.FilePatch.{FilePatch}
+use Rattle.read_file_patch.specs.PlainPatch.{PlainPatch, header_of, patch_of}
 use Rattle.patch_set.specs.PlainName.{plain_name}
 use Rattle.patch_set.specs.SetView.{SetView}
-use Rattle.tool_words.specs.PlainJobs.{PlainFilterJob, PlainListJob, PlainShown}
+use Rattle.cli_tool_words.specs.PlainJobs.{PlainFilterJob, PlainListJob, PlainShown}
 use Rattle.filter_choice.specs.Selected.{numbered}
 use Rattle.filter_choice.proofs.Rows.{flat-if}
 use Rattle.patch_filters.specs.Listed.{front, is_listed, line_if_selected, lines_if_selected, list_line, list_lines, listed, listed_whole, own_line}

@@ -10,11 +10,11 @@ use Rattle.std.proofs.lemmas.Option.{slice_get-get_or, slice_get-map, same_Some}
 use Rattle.line_list.specs.declared.Span.{Span}
 use Rattle.hunk_core.specs.PlainHunk.{bytes_at}
 use Rattle.hunk_core.specs.Pieces.{AreInTurn}
-use Rattle.file_patch.specs.declared.FilePatch.{FilePatch}
-use Rattle.file_patch.specs.PlainPatch.{change_of, patch_of, row_count}
+use Rattle.read_file_patch.specs.declared.FilePatch.{FilePatch}
+use Rattle.read_file_patch.specs.PlainPatch.{change_of, patch_of, row_count}
 use Rattle.patch_set.specs.Spans.{IsPlaced, ArePlaced}
 use Rattle.patch_set.proofs.Named.{rows-counted}
-use Rattle.tool_words.specs.PlainJobs.{PlainFilterJob}
+use Rattle.cli_tool_words.specs.PlainJobs.{PlainFilterJob}
 use Rattle.filter_choice.specs.Selected.{numbered}
 use Rattle.filter_choice.specs.OldLines.{old_of_each}
 use Rattle.filter_choice.specs.Kept.{is_kept, kept, keeps}

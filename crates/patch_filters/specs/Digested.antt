@@ -1,11 +1,11 @@
 -- What is written of a digest where file patches and hunks are left out.
 use Rattle.std.specs.Prelude.{ℕ, Bool, ◌==◌, List, [], ◌∷◌, ◌++◌, map, if◌then◌else◌}
 use Rattle.std.specs.List.{flat_map, list_any, range_with_len, zip}
-use Rattle.unified_form.specs.declared.skim.OldRange.{OldRange}
-use Rattle.file_patch.specs.declared.FilePatch.{FilePatch}
-use Rattle.file_patch.specs.PlainPatch.{PlainChange, hunks, script, change_of}
+use Rattle.unified_form.specs.declared.hunk_scan.OldRange.{OldRange}
+use Rattle.read_file_patch.specs.declared.FilePatch.{FilePatch}
+use Rattle.read_file_patch.specs.PlainPatch.{PlainChange, hunks, script, change_of}
 use Rattle.filter_choice.specs.Digested.{DigestView}
-use Rattle.tool_words.specs.PlainJobs.{PlainFilterJob}
+use Rattle.cli_tool_words.specs.PlainJobs.{PlainFilterJob}
 use Rattle.filter_choice.specs.Selected.{numbered}
 use Rattle.filter_choice.specs.OldLines.{addressed}
 use Rattle.filter_choice.specs.Kept.{is_kept}

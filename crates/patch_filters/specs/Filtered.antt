@@ -2,10 +2,10 @@
 use Rattle.std.specs.Prelude.{ℕ, Bool, ◌&&◌, filter, List, [], ◌++◌, map, slice_range, is_none, if◌then◌else◌}
 use Rattle.std.specs.List.{flat_map, list_any, zip}
 use Rattle.hunk_core.specs.PlainHunk.{bytes_at}
-use Rattle.file_patch.specs.declared.FilePatch.{FilePatch}
-use Rattle.file_patch.specs.PlainPatch.{change_of, header_of}
+use Rattle.read_file_patch.specs.declared.FilePatch.{FilePatch}
+use Rattle.read_file_patch.specs.PlainPatch.{change_of, header_of}
 use Rattle.patch_set.specs.SetView.{SetView}
-use Rattle.tool_words.specs.PlainJobs.{PlainFilterJob}
+use Rattle.cli_tool_words.specs.PlainJobs.{PlainFilterJob}
 use Rattle.filter_choice.specs.Selected.{numbered}
 use Rattle.filter_choice.specs.Kept.{is_taken, kept}
 

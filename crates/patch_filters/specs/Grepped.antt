@@ -4,18 +4,18 @@ use Rattle.std.specs.List.{flat_map, list_any}
 use Rattle.outside.specs.FinderView.{FinderView, FinderPasses}
 use Rattle.outside.specs.SinkView.{SinkView, SinkPasses, Receives, ReceivesPart, Rises}
 use Rattle.hunk_core.specs.PlainHunk.{bytes_at}
-use Rattle.file_patch.specs.declared.FilePatch.{FilePatch}
-use Rattle.file_patch.specs.PlainPatch.{PlainChange, PlainPatch, hunks, script, change_of, patch_of}
+use Rattle.read_file_patch.specs.declared.FilePatch.{FilePatch}
+use Rattle.read_file_patch.specs.PlainPatch.{PlainChange, PlainPatch, hunks, script, change_of, patch_of}
 use Rattle.patch_set.specs.PlainName.{plain_name}
 use Rattle.patch_set.specs.SetView.{SetView}
-use Rattle.tool_words.specs.PlainJobs.{PlainGrepJob, PlainStyle}
-use Rattle.tool_words.specs.declared.jobs.Searched.{Searched}
-use Rattle.tool_words.specs.declared.jobs.Searched.TheVariants.{All, Removed, Added, Changed}
+use Rattle.cli_tool_words.specs.PlainJobs.{PlainGrepJob, PlainStyle}
+use Rattle.cli_tool_words.specs.declared.jobs.Searched.{Searched}
+use Rattle.cli_tool_words.specs.declared.jobs.Searched.TheVariants.{All, Removed, Added, Changed}
 use Rattle.hunk_core.specs.declared.Mark.{Mark}
 use Rattle.hunk_core.specs.declared.Mark.TheVariants.{Keep, Drop, Add}
-use Rattle.tool_words.specs.declared.jobs.Marks.{Marks}
-use Rattle.tool_words.specs.declared.jobs.GrepOut.{GrepOut}
-use Rattle.tool_words.specs.declared.jobs.GrepOut.TheVariants.{Names, Hunks, Files}
+use Rattle.cli_tool_words.specs.declared.jobs.Marks.{Marks}
+use Rattle.cli_tool_words.specs.declared.jobs.GrepOut.{GrepOut}
+use Rattle.cli_tool_words.specs.declared.jobs.GrepOut.TheVariants.{Names, Hunks, Files}
 pub use Rattle.patch_header.specs.Content.{content}
 use Rattle.patch_filters.specs.declared.fault.GrepFault.{GrepFault}
 use Rattle.patch_filters.specs.declared.fault.GrepFault.TheVariants.{Pattern, Write, Memory}

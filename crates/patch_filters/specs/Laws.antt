@@ -2,10 +2,10 @@
 use Rattle.std.specs.Prelude.{◌≡◌, ℕ, suc, ◌<◌, ◌&&◌, ◌↔◌, true, false, [], None, Some}
 use Rattle.std.specs.List.{flat_map}
 use Rattle.hunk_core.specs.PlainHunk.{bytes_at}
-use Rattle.file_patch.specs.declared.FilePatch.{FilePatch}
-use Rattle.file_patch.specs.PlainPatch.{patch_of, row_count}
+use Rattle.read_file_patch.specs.declared.FilePatch.{FilePatch}
+use Rattle.read_file_patch.specs.PlainPatch.{patch_of, row_count}
 use Rattle.patch_set.specs.SetView.{SetView, IsWhole, patch_at}
-use Rattle.tool_words.specs.PlainJobs.{PlainFilterJob}
+use Rattle.cli_tool_words.specs.PlainJobs.{PlainFilterJob}
 use Rattle.filter_choice.specs.Kept.{keeps}
 use Rattle.patch_filters.specs.Filtered.{filtered, asks_no_hunk, is_taken_of, written_if_taken}
 

@@ -6,13 +6,13 @@ use Rattle.hunk_core.specs.PlainHunk.{PlainHunk}
 use Rattle.hunk_core.specs.Sides.{is_on_side}
 use Rattle.hunk_core.specs.declared.Side.{Side}
 use Rattle.hunk_core.specs.declared.Side.TheVariants.{Forward, Reversed}
-use Rattle.file_patch.specs.declared.FilePatch.{FilePatch}
-use Rattle.file_patch.specs.PlainPatch.{PlainChange, PlainPatch, hunks, script, patch_of}
-use Rattle.file_patch.specs.Actions.{is_moved}
-use Rattle.file_patch.specs.Absent.{is_absent}
+use Rattle.read_file_patch.specs.declared.FilePatch.{FilePatch}
+use Rattle.read_file_patch.specs.PlainPatch.{PlainChange, PlainPatch, hunks, script, patch_of}
+use Rattle.read_file_patch.specs.Actions.{is_moved}
+use Rattle.read_file_patch.specs.Absent.{is_absent}
 use Rattle.patch_set.specs.PlainName.{plain_name}
 use Rattle.patch_set.specs.SetView.{SetView}
-use Rattle.tool_words.specs.PlainJobs.{PlainShown, PlainListJob}
+use Rattle.cli_tool_words.specs.PlainJobs.{PlainShown, PlainListJob}
 use Rattle.filter_choice.specs.Selected.{is_selected, numbered}
 use Rattle.filter_choice.specs.Shown.{shown_name}
 use Rattle.patch_filters.specs.Filtered.{text_if}

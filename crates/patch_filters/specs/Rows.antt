@@ -1,11 +1,11 @@
 -- A file patch of a set at hand, with a flag for each of its hunks, and what is asked for.
 use Rattle.std.specs.Prelude.{◌≡◌, ℕ, ◌<◌, List, Some, length}
-use Rattle.file_patch.specs.Absent.{IsLawfulPatch}
-use Rattle.file_patch.specs.declared.FilePatch.{FilePatch}
-use Rattle.file_patch.specs.PlainPatch.{PlainPatch, patch_of, row_count}
+use Rattle.read_file_patch.specs.Absent.{IsLawfulPatch}
+use Rattle.read_file_patch.specs.declared.FilePatch.{FilePatch}
+use Rattle.read_file_patch.specs.PlainPatch.{PlainPatch, patch_of, row_count}
 use Rattle.patch_set.specs.SetView.{SetView, patch_at}
 use Rattle.patch_set.specs.Spans.{IsPlaced}
-use Rattle.tool_words.specs.PlainJobs.{plain_style}
+use Rattle.cli_tool_words.specs.PlainJobs.{plain_style}
 use Rattle.patch_filters.specs.Filtered.{pieces, region}
 use Rattle.patch_filters.specs.Told.{Telling}
 use Rattle.patch_filters.specs.declared.row_parts.Row.{Row}

@@ -7,18 +7,18 @@ use Rattle.num_text.specs.Numbers.{decimal}
 use Rattle.hunk_core.specs.PlainHunk.{PlainHunk, bytes_at, lines_on, new_lines, old_lines}
 use Rattle.hunk_core.specs.declared.Side.{Side}
 use Rattle.hunk_core.specs.declared.Side.TheVariants.{Forward, Reversed}
-use Rattle.file_patch.specs.PlainPatch.{PlainChange, PlainPatch, hunk_count, hunks, patch_of, script}
-use Rattle.file_patch.specs.declared.FilePatch.{FilePatch}
+use Rattle.read_file_patch.specs.PlainPatch.{PlainChange, PlainPatch, hunk_count, hunks, patch_of, script}
+use Rattle.read_file_patch.specs.declared.FilePatch.{FilePatch}
 use Rattle.patch_header.specs.Content.{content}
 use Rattle.patch_set.specs.PlainName.{plain_name}
 use Rattle.patch_set.specs.SetView.{SetView}
-use Rattle.tool_words.specs.PlainJobs.{PlainFilterJob, PlainStyle}
-use Rattle.tool_words.specs.declared.jobs.Marks.{Marks}
-use Rattle.tool_words.specs.declared.jobs.Numbered.{Numbered}
-use Rattle.tool_words.specs.declared.jobs.Numbered.TheVariants.{Before, After}
+use Rattle.cli_tool_words.specs.PlainJobs.{PlainFilterJob, PlainStyle}
+use Rattle.cli_tool_words.specs.declared.jobs.Marks.{Marks}
+use Rattle.cli_tool_words.specs.declared.jobs.Numbered.{Numbered}
+use Rattle.cli_tool_words.specs.declared.jobs.Numbered.TheVariants.{Before, After}
 use Rattle.filter_choice.specs.Kept.{is_taken, kept}
-use Rattle.patch_style.specs.Fronts as fronts
-use Rattle.patch_style.specs.Styled.{noted_text}
+use Rattle.filter_style.specs.Fronts as fronts
+use Rattle.filter_style.specs.Styled.{noted_text}
 use Rattle.patch_filters.specs.Filtered.{asks_no_hunk, pieces, region}
 
 -- something is told of hunks, or lines are numbered

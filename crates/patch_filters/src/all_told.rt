@@ -4,10 +4,10 @@
 ghost use Rattle.std.specs.Prelude.{◌≡◌, ◌<◌, ◌++◌, ◌&&◌, ◌||◌, length, suc, true, IfOk, OnOk};
 ghost use Rattle.std.specs.List.{list_any};
 ghost use Rattle.std.specs.Option.{ForSome};
-ghost use Rattle.file_patch.specs.PlainPatch.{change_of, header_of, patch_of, row_count};
+ghost use Rattle.read_file_patch.specs.PlainPatch.{change_of, header_of, patch_of, row_count};
 ghost use Rattle.hunk_core.specs.PlainHunk.{bytes_at};
 ghost use Rattle.patch_set.specs.SetView.{patch_at};
-ghost use Rattle.tool_words.specs.PlainJobs.{plain_filter_job};
+ghost use Rattle.cli_tool_words.specs.PlainJobs.{plain_filter_job};
 ghost use Rattle.filter_choice.specs.Kept.{is_taken, kept};
 ghost use Rattle.patch_filters.specs.Filtered.{pieces, region};
 ghost use Rattle.patch_filters.specs.Told.{asks_bare, asks_marks, asks_told, ends_of, last_end, left_text, telling_of, text_behind, told, told_bare, told_if, told_if_taken, told_kept, told_of};
@@ -18,12 +18,12 @@ use crate::filter::asks_no_hunk;
 use crate::noting::put_told_hunks;
 use crate::pieces::{bytes_at, region};
 use crate::row_parts::Row;
-use file_patch::FilePatch;
+use cli_tool_words::{FilterJob, Marks};
 use filter_choice::{is_meant, is_selected, keeps, patch_at};
+use filter_style::put_text_front;
 use patch_set::PatchSet;
-use patch_style::put_text_front;
+use read_file_patch::FilePatch;
 use std::alloc::{AllocError, Global};
-use tool_words::{FilterJob, Marks};
 
 /// Whether something is told of hunks, or lines are numbered.
 pub fn asks_marks(marks: Marks) -> bool

@@ -5,23 +5,23 @@ ghost use Rattle.std.specs.List.{list_any};
 ghost use Rattle.std.specs.Option.{ForSome};
 ghost use Rattle.outside.specs.SinkView.{Writes};
 ghost use Rattle.outside.specs.Puts.{Puts};
-ghost use Rattle.file_patch.specs.PlainPatch.{header_of};
-ghost use Rattle.patch_text.specs.Digests.{IsDigest};
-ghost use Rattle.tool_words.specs.PlainJobs.{plain_filter_job};
+ghost use Rattle.read_file_patch.specs.PlainPatch.{header_of};
+ghost use Rattle.read_patch_text.specs.Digests.{IsDigest};
+ghost use Rattle.cli_tool_words.specs.PlainJobs.{plain_filter_job};
 ghost use Rattle.filter_choice.specs.Kept.{is_taken};
 ghost use Rattle.patch_filters.specs.Filtered.{asks_no_hunk, chosen, pieces, region, text_if};
 ghost use Rattle.patch_filters.specs.Digested.{digest_if_taken, digest_kept, digest_written, filtered_digest};
 
 use crate::hunks::is_row_kept;
 use crate::pieces::{bytes_at, put_piece};
-use file_patch::FilePatch;
-use filter_choice::{Digest, is_meant, is_selected};
+use cli_tool_words::FilterJob;
+use filter_choice::{HunkIndex, is_meant, is_selected};
 use outside::{Failed, Sink};
-use tool_words::FilterJob;
+use read_file_patch::FilePatch;
 use unified_form::OldRange;
 
 /// Whether a file patch, counted from 0, is meant.
-fn is_taken(digest: &Digest, job: &FilterJob, patch: usize) -> bool
+fn is_taken(digest: &HunkIndex, job: &FilterJob, patch: usize) -> bool
     requires within { patch < length digest.now.patches }
     requires few { patch + 1 < 2 ^ 64 }
     ensures { ForSome (slice_get digest.now.patches patch) (λ p. result ≡ is_taken (plain_filter_job job.now) (suc patch) (header_of digest.now.text p.header)) }
@@ -108,7 +108,7 @@ fn put_written<O: Sink>(
 }
 
 /// A file patch, counted from 0.
-fn patch_at(digest: &Digest, patch: usize) -> &FilePatch
+fn patch_at(digest: &HunkIndex, patch: usize) -> &FilePatch
     requires { patch < length digest.now.patches }
     ensures is { slice_get digest.now.patches patch ≡ Some result.now }
     ensures digest { ForSome (slice_get digest.now.olds patch) (IsDigest digest.now.text result.now) }
@@ -118,7 +118,7 @@ fn patch_at(digest: &Digest, patch: usize) -> &FilePatch
 
 /// Writes what is written of a file patch, counted from 0, if it is meant.
 fn put_if_taken<O: Sink>(
-    digest: &Digest,
+    digest: &HunkIndex,
     job: &FilterJob,
     patch: usize,
     out: &mut O,
@@ -142,7 +142,11 @@ fn put_if_taken<O: Sink>(
 /// Writes each file patch that is selected and whose number is meant: the lines in front of its first hunk, and the hunks
 /// that are kept; nothing where none is. Range lines stay as they are. A bare git header is written where neither numbers
 /// nor lines of hunks are asked for.
-pub fn filter_patches<O: Sink>(digest: &Digest, job: &FilterJob, out: &mut O) -> Result<(), Failed>
+pub fn filter_patches<O: Sink>(
+    digest: &HunkIndex,
+    job: &FilterJob,
+    out: &mut O,
+) -> Result<(), Failed>
     ensures writes { Writes (O.view out.old) (O.view out.new) result (filtered_digest (plain_filter_job job.now) digest.now) }
     ensures rest { O.same_rest out.old out.new }
 {

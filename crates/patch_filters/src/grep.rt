@@ -4,10 +4,10 @@ ghost use Rattle.std.specs.Prelude.{◌≡◌, ◌<◌, ◌++◌, IsSome, [], Ok
 ghost use Rattle.std.specs.Option.{ForSome};
 ghost use Rattle.outside.specs.FinderView.{FinderPasses};
 ghost use Rattle.outside.specs.SinkView.{Receives, ReceivesPart, SinkPasses};
-ghost use Rattle.file_patch.specs.PlainPatch.{IsLawfulChange, change_of, row_count};
+ghost use Rattle.read_file_patch.specs.PlainPatch.{IsLawfulChange, change_of, row_count};
 ghost use Rattle.patch_set.specs.SetView.{patch_at};
 ghost use Rattle.patch_set.specs.Spans.{IsPlaced};
-ghost use Rattle.tool_words.specs.PlainJobs.{plain_grep_job};
+ghost use Rattle.cli_tool_words.specs.PlainJobs.{plain_grep_job};
 ghost use Rattle.patch_filters.specs.Filtered.{chosen, pieces, region, text_if};
 ghost use Rattle.patch_filters.specs.HunkLines.{hunk_lines};
 ghost use Rattle.patch_filters.specs.Grepped.{Finds, HasGrepCause, IsFirst, asked_text, found_text, grepped, hits_of, test_of, text_if_found};
@@ -18,12 +18,12 @@ use crate::hunk_lines::{first_line, hunk_feeds, hunk_line, put_labelled};
 use crate::list::put_name_line;
 use crate::pieces::{bytes_at, put_hunk, put_piece, put_region};
 use crate::search::{first_hit, is_hit, is_hit_behind, keep_pattern};
-use file_patch::FilePatch;
+use cli_tool_words::{GrepJob, GrepOut, Searched, Shown};
 use filter_choice::{is_selected, patch_at};
 use outside::{Finder, Sink};
 use patch_set::PatchSet;
+use read_file_patch::FilePatch;
 use std::alloc::Global;
-use tool_words::{GrepJob, GrepOut, Searched, Shown};
 
 /// Writes a hunk, counted from 0, if it has a hit.
 fn put_if_hit<F: Finder, O: Sink>(

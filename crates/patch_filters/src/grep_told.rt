@@ -2,9 +2,9 @@
 
 ghost use Rattle.std.specs.Prelude.{◌≡◌, ◌<◌, IsSome, Some, false, length, slice_index_or, IfOk};
 ghost use Rattle.std.specs.Option.{ForSome};
-ghost use Rattle.file_patch.specs.PlainPatch.{IsLawfulChange, change_of, patch_of, row_count};
+ghost use Rattle.read_file_patch.specs.PlainPatch.{IsLawfulChange, change_of, patch_of, row_count};
 ghost use Rattle.patch_set.specs.SetView.{patch_at};
-ghost use Rattle.tool_words.specs.PlainJobs.{plain_grep_job, plain_style};
+ghost use Rattle.cli_tool_words.specs.PlainJobs.{plain_grep_job, plain_style};
 ghost use Rattle.patch_filters.specs.Filtered.{pieces, region};
 ghost use Rattle.patch_filters.specs.Grepped.{Finds, IsAsked, IsFirst, found_told, hits_of, is_whole, no_style, plain_telling, shows_names, tells, test_of, written_flags};
 ghost use Rattle.patch_filters.specs.Rows.{IsAt};
@@ -16,12 +16,12 @@ use crate::noting::put_told_hunks;
 use crate::pieces::put_piece;
 use crate::row_parts::Row;
 use crate::search::is_hit_behind;
-use file_patch::FilePatch;
+use cli_tool_words::{GrepJob, GrepOut, Marks, Style};
 use filter_choice::patch_at;
 use outside::{Finder, Sink};
 use patch_set::PatchSet;
+use read_file_patch::FilePatch;
 use std::alloc::{AllocError, Global};
-use tool_words::{GrepJob, GrepOut, Marks, Style};
 
 fn shows_names(output: GrepOut) -> bool
     ensures { result ≡ shows_names output }

@@ -4,18 +4,18 @@ ghost use Rattle.std.specs.Prelude.{◌≡◌, ◌+◌, ◌-◌, ◌^◌, ◌<�
 ghost use Rattle.std.specs.List.{flat_map};
 ghost use Rattle.num_text.specs.Numbers.{decimal};
 ghost use Rattle.outside.specs.Puts.{Puts};
-ghost use Rattle.file_patch.specs.PlainPatch.{IsLawfulChange, row_count};
+ghost use Rattle.read_file_patch.specs.PlainPatch.{IsLawfulChange, row_count};
 ghost use Rattle.patch_set.specs.Spans.{IsPlaced};
 ghost use Rattle.patch_filters.specs.Filtered.{pieces};
 ghost use Rattle.patch_filters.specs.HunkLines.{feeds, first_line, hunk_line, hunk_lines};
 
 use crate::pieces::{bytes_at, put_piece};
 use arrayvec::ArrayVec;
-use file_patch::FilePatch;
+use cli_tool_words::Shown;
 use hunk_core::{Form, add_piece};
 use num_text::put_number;
 use outside::{Failed, Sink};
-use tool_words::Shown;
+use read_file_patch::FilePatch;
 
 /// Two numbers of 20 digits at most, two tabs, a word and a line feed.
 pub type Line = ArrayVec<u8, 64>;

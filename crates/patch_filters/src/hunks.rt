@@ -1,15 +1,15 @@
 //! The old lines of a hunk of a digest, and whether it is kept.
 
 ghost use Rattle.std.specs.Prelude.{◌≡◌, ◌<◌, ℕ, List, Some, length, false, slice_get, slice_index_or};
-ghost use Rattle.file_patch.specs.PlainPatch.{IsLawfulChange, change_of};
-ghost use Rattle.tool_words.specs.PlainJobs.{plain_filter_job};
+ghost use Rattle.read_file_patch.specs.PlainPatch.{IsLawfulChange, change_of};
+ghost use Rattle.cli_tool_words.specs.PlainJobs.{plain_filter_job};
 ghost use Rattle.filter_choice.specs.OldLines.{IsCounted, numbers_of};
-ghost use Rattle.patch_text.specs.Digests.{IsDigest, rows_in};
+ghost use Rattle.read_patch_text.specs.Digests.{IsDigest, rows_in};
 ghost use Rattle.patch_filters.specs.Digested.{digest_kept, olds_by, range_numbers};
 
-use file_patch::{Change, FilePatch};
+use cli_tool_words::FilterJob;
 use filter_choice::{Lines, addressed, is_meant, is_one_meant};
-use tool_words::FilterJob;
+use read_file_patch::{Change, FilePatch};
 use unified_form::OldRange;
 
 /// The old lines that a range states.

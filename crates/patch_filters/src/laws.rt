@@ -1,8 +1,8 @@
 //! Laws of what is written.
 ghost use Rattle.std.specs.Prelude.{◌≡◌, false, List, map};
-ghost use Rattle.file_patch.specs.PlainPatch.{PlainPatch};
-ghost use Rattle.patch_text.specs.Outlines.{outline};
-ghost use Rattle.tool_words.specs.PlainJobs.{PlainListJob};
+ghost use Rattle.read_file_patch.specs.PlainPatch.{PlainPatch};
+ghost use Rattle.read_patch_text.specs.Outlines.{outline};
+ghost use Rattle.cli_tool_words.specs.PlainJobs.{PlainListJob};
 ghost use Rattle.patch_filters.specs.Listed.{listed};
 ghost use Rattle.patch_filters.specs.Laws.{WritesAll, WritesNone, WritesNoBare};
 

@@ -7,24 +7,24 @@ ghost use Rattle.hunk_core.specs.PlainHunk.{hunks_of};
 ghost use Rattle.hunk_core.specs.Sides.{is_on_side};
 ghost use Rattle.outside.specs.SinkView.{Writes};
 ghost use Rattle.outside.specs.Puts.{Puts};
-ghost use Rattle.file_patch.specs.PlainPatch.{change_of, header_of, hunks, patch_of};
-ghost use Rattle.file_patch.specs.Absent.{IsLawfulPatch, is_absent};
+ghost use Rattle.read_file_patch.specs.PlainPatch.{change_of, header_of, hunks, patch_of};
+ghost use Rattle.read_file_patch.specs.Absent.{IsLawfulPatch, is_absent};
 ghost use Rattle.filter_choice.specs.Outlined.{outlined};
 ghost use Rattle.patch_set.specs.PlainName.{plain_name};
 ghost use Rattle.patch_set.specs.SetView.{patch_at};
-ghost use Rattle.tool_words.specs.PlainJobs.{plain_list_job, plain_shown};
+ghost use Rattle.cli_tool_words.specs.PlainJobs.{plain_list_job, plain_shown};
 ghost use Rattle.patch_filters.specs.Listed.{asks_hunks, blanks, file_line, file_number, file_text, front, has_no_line, is_gone, line_if_selected, lines_if_selected, listed, listed_whole, name_line, number_text, own_line, sign, sign_text};
 
 use crate::hunk_lines::{Line, add_decimal, put_hunk_lines};
 use crate::pieces::put_piece;
 use arrayvec::ArrayVec;
-use file_patch::{Change, FilePatch, shortened};
-use filter_choice::{Outline, is_selected, patch_at};
+use cli_tool_words::{ListJob, Shown};
+use filter_choice::{FilePatchList, is_selected, patch_at};
 use hunk_core::{Hunk, Side, add_piece, is_taken};
 use num_text::put_number;
 use outside::{Failed, Sink};
 use patch_set::PatchSet;
-use tool_words::{ListJob, Shown};
+use read_file_patch::{Change, FilePatch, shortened};
 
 fn has_line(hunk: &Hunk, side: Side) -> bool
     ensures { result ≡ list_any (λ l. is_on_side side l.mark) hunk.now.body.items }
@@ -202,7 +202,7 @@ fn file_number(job: &ListJob, patch: usize) -> Option<u64>
 
 /// Writes the line of a file patch, counted from 0, if it is selected.
 fn put_if_selected<O: Sink>(
-    outline: &Outline,
+    outline: &FilePatchList,
     job: &ListJob,
     patch: usize,
     out: &mut O,
@@ -221,7 +221,11 @@ fn put_if_selected<O: Sink>(
 
 /// Writes a line for each file patch whose name is selected: the name of the text, if that is shown; the number of the line of its names, if it is asked for, and
 /// a tab; the number of the file patch, if it is asked for; a sign that says which side is no file, if that is asked for, and a space; and its name, as it is shown.
-pub fn list_patches<O: Sink>(outline: &Outline, job: &ListJob, out: &mut O) -> Result<(), Failed>
+pub fn list_patches<O: Sink>(
+    outline: &FilePatchList,
+    job: &ListJob,
+    out: &mut O,
+) -> Result<(), Failed>
     ensures writes { Writes (O.view out.old) (O.view out.new) result (listed (plain_list_job job.now) (outlined outline.now)) }
     ensures rest { O.same_rest out.old out.new }
 {

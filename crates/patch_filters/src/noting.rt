@@ -2,17 +2,17 @@
 
 ghost use Rattle.std.specs.Prelude.{◌≡◌, ◌<◌, ◌++◌, IfOk, OnOk};
 ghost use Rattle.std.specs.List.{flat_map, range_with_len};
-ghost use Rattle.file_patch.specs.PlainPatch.{hunk_count, row_count};
+ghost use Rattle.read_file_patch.specs.PlainPatch.{hunk_count, row_count};
 ghost use Rattle.patch_filters.specs.Told.{note, noted_hunks, noted_if, numbered_change, told_hunks};
 ghost use Rattle.patch_filters.specs.Rows.{IsRow, front, plain, telling, texts};
 
 use crate::appending::{put, put_decimal};
 use crate::numbering::put_numbered_hunks;
 use crate::row_parts::{Row, front, is_kept, name, piece};
-use file_patch::Change;
-use patch_style::{put_front, put_noted, put_side_front};
+use cli_tool_words::Numbered;
+use filter_style::{put_front, put_noted, put_side_front};
+use read_file_patch::Change;
 use std::alloc::{AllocError, Global};
-use tool_words::Numbered;
 
 /// Adds what a hunk is told by, if it is: its number in its file patch, and the name of that.
 fn put_note(out: &mut Vec<u8>, annotate: bool, number: u64, name: &[u8]) -> Result<(), AllocError>

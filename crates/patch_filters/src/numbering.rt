@@ -3,7 +3,7 @@
 ghost use Rattle.std.specs.Prelude.{◌≡◌, ◌<◌, ◌^◌, ◌++◌, ◌||◌, ℕ, List, false, length, OnOk};
 ghost use Rattle.hunk_core.specs.PlainHunk.{hunk_of, hunks_of, lines_on, new_lines, old_lines};
 ghost use Rattle.hunk_core.specs.Turned.{IsLawful};
-ghost use Rattle.file_patch.specs.PlainPatch.{AreLawfulHunks, row_count};
+ghost use Rattle.read_file_patch.specs.PlainPatch.{AreLawfulHunks, row_count};
 ghost use Rattle.patch_filters.specs.Told.{dots_if, is_set, left_out, line_if, next_if, numbered_from, numbered_hunks, numbered_if, numbered_line, side_of, start_on};
 ghost use Rattle.patch_filters.specs.Rows.{IsRow};
 
@@ -11,9 +11,9 @@ use crate::appending::{put, put_decimal};
 use crate::pieces::bytes_at;
 use crate::row_parts::{Row, is_kept};
 use crate::search::content;
+use cli_tool_words::Numbered;
 use hunk_core::{Hunk, Side, is_taken};
 use std::alloc::AllocError;
-use tool_words::Numbered;
 
 fn side_of(side: Numbered) -> Side
     ensures { result ≡ side_of side }

@@ -3,13 +3,13 @@
 ghost use Rattle.std.specs.Prelude.{◌≡◌, ◌<◌, ◌≤◌, [], length, slice_index_or};
 ghost use Rattle.hunk_core.specs.PlainHunk.{bytes_at};
 ghost use Rattle.outside.specs.Puts.{Puts};
-ghost use Rattle.file_patch.specs.PlainPatch.{row_count};
+ghost use Rattle.read_file_patch.specs.PlainPatch.{row_count};
 ghost use Rattle.patch_set.specs.Spans.{IsPlaced};
 ghost use Rattle.patch_filters.specs.Filtered.{pieces, region};
 
-use file_patch::FilePatch;
 use line_list::Span;
 use outside::{Failed, Sink, put_all};
+use read_file_patch::FilePatch;
 
 pub fn bytes_at(text: &[u8], span: Span) -> &[u8]
     requires order { span.start ≤ span.end }

@@ -1,15 +1,15 @@
 //! A file patch whose hunks are told, and its parts.
 
 ghost use Rattle.std.specs.Prelude.{◌≡◌, ◌<◌, [], slice_index_or};
-ghost use Rattle.file_patch.specs.PlainPatch.{row_count};
+ghost use Rattle.read_file_patch.specs.PlainPatch.{row_count};
 ghost use Rattle.patch_set.specs.PlainName.{plain_name};
 ghost use Rattle.patch_filters.specs.Told.{is_set};
 ghost use Rattle.patch_filters.specs.Rows.{IsRow, front, plain, texts};
 
 use crate::pieces::{bytes_at, region};
-use file_patch::FilePatch;
+use cli_tool_words::{Marks, Style};
 use patch_set::PatchSet;
-use tool_words::{Marks, Style};
+use read_file_patch::FilePatch;
 
 /// A file patch of a set, counted from 0, and what is asked for.
 #[derive(Clone, Copy)]

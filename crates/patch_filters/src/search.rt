@@ -6,19 +6,19 @@ ghost use Rattle.outside.specs.FinderView.{FinderPasses};
 ghost use Rattle.hunk_core.specs.PlainHunk.{bytes_at, hunk_of};
 ghost use Rattle.hunk_core.specs.Turned.{IsLawful, LiesIn};
 ghost use Rattle.ed_form.specs.PlainEdit.{edits_of, lines_of};
-ghost use Rattle.file_patch.specs.PlainPatch.{IsLawfulChange, change_of, row_count};
+ghost use Rattle.read_file_patch.specs.PlainPatch.{IsLawfulChange, change_of, row_count};
 ghost use Rattle.patch_filters.specs.Grepped.{IsAsked, IsFirst, IsPatternFault, hits_of, is_searched, test_of};
 ghost use Rattle.patch_header.specs.Content.{content};
 
 use crate::GrepFault;
 use crate::pieces::bytes_at;
+use cli_tool_words::Searched;
 use ed_form::{EdEdit, EdScript};
-use file_patch::{Change, FilePatch};
 use hunk_core::{Hunk, HunkLine, Mark, has_feed};
 use line_list::Span;
 use outside::{FindFault, Finder};
+use read_file_patch::{Change, FilePatch};
 use std::alloc::{AllocError, Global};
-use tool_words::Searched;
 
 /// Hands the finder the pattern.
 pub fn keep_pattern<F: Finder>(

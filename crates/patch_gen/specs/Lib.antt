@@ -1,4 +1,4 @@
-pub mod Draws
+pub mod Lcg
 pub mod Texts
 pub mod Patches
 pub mod Tree

@@ -1,7 +1,7 @@
 -- The text of a made file. Every line has 12 bytes with its line feed.
 use Rattle.std.specs.Prelude.{ℕ, zero, suc, ◌+◌, ◌-◌, ◌*◌, ◌/◌, ◌%◌, ◌^◌, List, [], ◌∷◌, ◌++◌, codes}
 use Rattle.std.specs.List.{flat_map, range_with_len, slice_range}
-use Rattle.patch_gen.specs.Draws.{next_state, draw}
+use Rattle.patch_gen.specs.Lcg.{next_state, draw}
 
 -- the decimal digits of a number at so many places, the last of them the ones
 abbrev pub in_places : ℕ → ℕ → List ℕ

@@ -1,7 +1,7 @@
 -- The made tree: files of numbered lines, and a patch that changes every twentieth of them.
 use Rattle.std.specs.Prelude.{ℕ, ◌+◌, ◌-◌, ◌*◌, ◌/◌, List, map}
 use Rattle.std.specs.List.{flat_map, range_with_len}
-use Rattle.patch_gen.specs.Draws.{state_after}
+use Rattle.patch_gen.specs.Lcg.{state_after}
 use Rattle.patch_gen.specs.Texts.{file_line, file_text}
 use Rattle.patch_gen.specs.Patches.{file_patch}
 

@@ -4,18 +4,18 @@
 
 ghost use Rattle.std.specs.Prelude.{◌≡◌, ◌<◌, ◌≤◌, ◌+◌, ◌-◌, ◌*◌, ◌/◌, ◌%◌, ◌^◌, ℕ, List, ◌++◌, ◌∷◌, [], length, map, IfOk, OnOk};
 ghost use Rattle.num_text.specs.Numbers.{IsNumeral};
-ghost use Rattle.patch_gen.specs.Draws.{state_after, draw};
+ghost use Rattle.patch_gen.specs.Lcg.{state_after, draw};
 ghost use Rattle.patch_gen.specs.Texts.{in_places, extra_line, numbered_line, extra_count, line_value, file_line, file_text};
 ghost use Rattle.patch_gen.specs.Patches.{new_line, file_patch};
 ghost use Rattle.patch_gen.specs.Tree.{file_state, made_file, made};
 
 mod diff;
-mod draws;
+mod lcg;
 mod room;
 mod text;
 
 use diff::add_file_patch;
-use draws::Draws;
+use lcg::Lcg;
 use room::patch_length;
 use std::alloc::{AllocError, Global};
 use text::{file_of, without_extras};
@@ -36,7 +36,7 @@ fn add_file(
     alloc: Global,
     files: &mut Vec<Vec<u8>>,
     patch: &mut Vec<u8>,
-    draws: &mut Draws,
+    draws: &mut Lcg,
     number: u32,
     lines: u32,
 ) -> Result<(), AllocError>
@@ -63,7 +63,7 @@ pub fn generate(alloc: Global, seed: u32, files: u32, lines: u32) -> Result<Made
     ensures patch { IfOk result (λ m. m.patch.items ≡ (made seed files lines).patch) }
     ensures hunks { IfOk result (λ m. m.hunks ≡ (made seed files lines).hunks) }
 {
-    let mut draws = Draws {
+    let mut draws = Lcg {
         state: u64::from(seed),
     };
     let mut texts = Vec::with_capacity(alloc, files as usize)?;

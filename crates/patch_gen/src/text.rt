@@ -2,10 +2,10 @@
 
 ghost use Rattle.std.specs.Prelude.{◌≡◌, ◌+◌, ◌-◌, ◌*◌, ◌%◌, ◌≤◌, ◌++◌, length, drop, IfOk, OnOk};
 ghost use Rattle.std.specs.List.{flat_map, range_with_len};
-ghost use Rattle.patch_gen.specs.Draws.{draw, state_after};
+ghost use Rattle.patch_gen.specs.Lcg.{draw, state_after};
 ghost use Rattle.patch_gen.specs.Texts.{extra_line, numbered_line, extra_lines, file_text};
 
-use crate::draws::Draws;
+use crate::lcg::Lcg;
 use std::alloc::{AllocError, Global};
 
 /// The last digit.
@@ -63,7 +63,7 @@ fn add_extras(text: &mut Vec<u8>, count: u32) -> Result<(), AllocError>
 }
 
 /// Adds the numbered lines, one draw for each.
-fn add_numbered(text: &mut Vec<u8>, draws: &mut Draws, lines: u32) -> Result<(), AllocError>
+fn add_numbered(text: &mut Vec<u8>, draws: &mut Lcg, lines: u32) -> Result<(), AllocError>
     ensures text { OnOk result (text.new.items ≡ text.old.items ++ flat_map (λ j. numbered_line j (draw draws.old.state j % 1000)) (range_with_len 1 lines)) }
     ensures state { OnOk result (draws.new.state ≡ state_after draws.old.state lines) }
 {
@@ -75,7 +75,7 @@ fn add_numbered(text: &mut Vec<u8>, draws: &mut Draws, lines: u32) -> Result<(),
 }
 
 /// Makes a file of so many numbered lines.
-pub fn file_of(alloc: Global, draws: &mut Draws, lines: u32) -> Result<Vec<u8>, AllocError>
+pub fn file_of(alloc: Global, draws: &mut Lcg, lines: u32) -> Result<Vec<u8>, AllocError>
     ensures text { IfOk result (λ text. text.items ≡ file_text draws.old.state lines) }
     ensures state { OnOk result (draws.new.state ≡ state_after draws.old.state (1 + lines)) }
 {

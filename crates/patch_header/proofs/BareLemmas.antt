@@ -14,10 +14,10 @@ use Rattle.patch_header.specs.Kept.{opening_said, bare_said}
 use Rattle.patch_header.specs.Region.{Row, row, rows, tail_of}
 use Rattle.patch_header.specs.Steps.{header_with, bare_with}
 use Rattle.patch_header.specs.declared.region.Tail.{Tail}
-use Rattle.patch_header.specs.declared.region.Seen.{Seen}
-use Rattle.header_record.specs.declared.Action.{Action}
+use Rattle.patch_header.specs.declared.region.LastHeaderLines.{LastHeaderLines}
+use Rattle.read_header_record.specs.declared.Action.{Action}
 use Rattle.patch_header.specs.declared.git_lines.GitLines.{GitLines}
-use Rattle.header_record.specs.declared.Header.{Header}
+use Rattle.read_header_record.specs.declared.Header.{Header}
 use Rattle.patch_header.proofs.GitLemmas.{action-is, from-is, to-is}
 use Rattle.patch_header.proofs.Rows.{line_length}
 use Rattle.patch_header.proofs.Stands.{and_left}
@@ -25,7 +25,7 @@ use Rattle.patch_header.proofs.Stands.{and_left}
 abbrev turned : Header → Action → Option Span → Option Span → Header
 turned h a f t = record h { action = a; from = f; to = t }
 
-pub opening-is : (text : List ℕ) (form : Form) (at opening : ℕ) (seen : Seen) (gs : List Row) → opening_said text form at opening seen (git_lines_in gs) ≡ header_with text form at opening seen gs
+pub opening-is : (text : List ℕ) (form : Form) (at opening : ℕ) (seen : LastHeaderLines) (gs : List Row) → opening_said text form at opening seen (git_lines_in gs) ≡ header_with text form at opening seen gs
 opening-is text form at opening seen gs =
     let s = git_lines_in gs in
     let h = opening_said text form at opening seen s in

@@ -10,9 +10,9 @@ use Rattle.patch_header.specs.GitRows.{lines_of, old_mode_of, new_mode_of, old_m
 use Rattle.patch_header.specs.Region.{Row, rows, tail_of, first_some, last_tail, later}
 use Rattle.patch_header.specs.Said.{said_with, action_said, asks_said, from_by_said, to_by_said, from_said, to_said, push_said, header_said, kept_if, trail_said, said_in, trail_back, trail_in, or_nothing, led_in, led_said, leads_directly}
 use Rattle.patch_header.specs.declared.region.Tail.{Tail}
-use Rattle.patch_header.specs.declared.ways.Ways.{Ways}
-use Rattle.header_record.specs.declared.Action.{Action}
-use Rattle.header_record.specs.declared.Action.TheVariants.{Plain, New, Deleted, Rename, Copy}
+use Rattle.patch_header.specs.declared.read_options.ReadOptions.{ReadOptions}
+use Rattle.read_header_record.specs.declared.Action.{Action}
+use Rattle.read_header_record.specs.declared.Action.TheVariants.{Plain, New, Deleted, Rename, Copy}
 use Rattle.patch_header.specs.declared.git_lines.GitLines.{GitLines}
 use Rattle.patch_header.specs.declared.git_trail.GitTrail.{GitTrail}
 
@@ -234,7 +234,7 @@ nothing-is None None = refl
 nothing-is None (Some rs) = refl
 nothing-is (Some rs) p = refl
 
-pub led-is : (ways : Ways) (form : Form) (t : GitTrail) (rs : List Row) → (ways.git ≡ true → t ≡ trail_in rs) → led_said ways form t ≡ git_lines_in (led_by ways form rs)
+pub led-is : (ways : ReadOptions) (form : Form) (t : GitTrail) (rs : List Row) → (ways.git ≡ true → t ≡ trail_in rs) → led_said ways form t ≡ git_lines_in (led_by ways form rs)
 led-is ways form t rs e = by ways.git (is_unified form) e
   where
     by : (g u : Bool) → (g ≡ true → t ≡ trail_in rs) → cond (g && u) (led_in t) (git_lines_in []) ≡ git_lines_in (cond (g && u) (led_rows rs) [])
@@ -246,7 +246,7 @@ said-there : (o : Option (List Row)) → is_some (said_in o) ≡ is_some o
 said-there None = refl
 said-there (Some rs) = refl
 
-pub directly-is : (ways : Ways) (form : Form) (t : GitTrail) (rs : List Row) → (ways.git ≡ true → t ≡ trail_in rs) → leads_directly ways form t ≡ led_directly ways form rs
+pub directly-is : (ways : ReadOptions) (form : Form) (t : GitTrail) (rs : List Row) → (ways.git ≡ true → t ≡ trail_in rs) → leads_directly ways form t ≡ led_directly ways form rs
 directly-is ways form t rs e = by ways.git (is_unified form) e
   where
     by : (g u : Bool) → (g ≡ true → t ≡ trail_in rs) → ((g && u) && is_some t.header) ≡ ((g && u) && ends_with_git rs)
@@ -254,5 +254,5 @@ directly-is ways form t rs e = by ways.git (is_unified form) e
     by true false k = refl
     by true true k = ap (λ x. is_some x.header) (k refl) ∙ said-there (header_back (reverse rs))
 
-pub no-led : (ways : Ways) (form : Form) (t : GitTrail) → ways.git ≡ false → led_said ways form t ≡ git_lines_in []
+pub no-led : (ways : ReadOptions) (form : Form) (t : GitTrail) → ways.git ≡ false → led_said ways form t ≡ git_lines_in []
 no-led ways form t e = rw e refl

@@ -13,8 +13,8 @@ use Rattle.patch_header.specs.NamesFit.{tells, gives, is_free, fits, old_fits, n
 use Rattle.unified_form.specs.Hunks.{begins_hunk}
 use Rattle.patch_header.specs.GitRows.{half, are_alike, has_halves, header_back, old_name_back, new_name_back, led_rows}
 use Rattle.patch_header.specs.Region.{Row}
-use Rattle.header_record.specs.declared.Action.{Action}
-use Rattle.header_record.specs.declared.Action.TheVariants.{Plain, New, Deleted, Rename, Copy}
+use Rattle.read_header_record.specs.declared.Action.{Action}
+use Rattle.read_header_record.specs.declared.Action.TheVariants.{Plain, New, Deleted, Rename, Copy}
 use Rattle.patch_header.proofs.Fronts.{unified-range}
 use Rattle.patch_header.proofs.Stands.{and_left, and_right}
 use Rattle.patch_header.proofs.Meanings.{begins-words}

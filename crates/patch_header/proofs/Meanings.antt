@@ -5,7 +5,7 @@ use Rattle.std.specs.List.{list_any, position, position_or_len, ends_with}
 use Rattle.std.proofs.lemmas.Bool.Decides.{Decides-eqb}
 use Rattle.std.proofs.lemmas.Slice.Eq.{bytes_eq-Decides, ends_is}
 use Rattle.std.proofs.lemmas.List.{reverse-append, drop-append-le, take-append-le, take_all, drop_all}
-use Rattle.header_record.specs.Quoted.{begins_quoted, quoted_length}
+use Rattle.read_header_record.specs.Quoted.{begins_quoted, quoted_length}
 use Rattle.hunk_core.specs.LineTests.{after, ends_line}
 use Rattle.hunk_core.proofs.TextLemmas.{prefix-words, has_some, ends-behind}
 use Rattle.patch_header.specs.Content.{content, is_binary, is_dot}

@@ -5,7 +5,7 @@ use Rattle.std.proofs.lemmas.Bool.{ltb-true, ltb-false}
 use Rattle.std.proofs.lemmas.List.{drop_all}
 use Rattle.std.proofs.lemmas.List.Sums.{sum_by-append}
 use Rattle.line_list.specs.Lines.{lines, IsLineAt}
-use Rattle.patch_header.specs.declared.ways.Ways.{Ways}
+use Rattle.patch_header.specs.declared.read_options.ReadOptions.{ReadOptions}
 use Rattle.hunk_core.specs.LineTests.{after, ends_line}
 use Rattle.patch_header.specs.Content.{content}
 use Rattle.patch_header.specs.Openings.{stop_at}
@@ -53,13 +53,13 @@ rows-push number start (l ∷ ls) line =
     ap (λ rs. row number start l ∷ rs) (rows-push (number + 1) (start + length l) ls line)
     ∙ ap (λ r. rows number start (l ∷ ls) ++ r ∷ []) last
 
-pub quiet-push : (ways : Ways) (ls : List (List ℕ)) (line : List ℕ) (rest : List (List ℕ)) → AreQuiet ways ls (line ∷ rest) → stop_at ways (line ∷ rest) ≡ None → AreQuiet ways (ls ++ line ∷ []) rest
+pub quiet-push : (ways : ReadOptions) (ls : List (List ℕ)) (line : List ℕ) (rest : List (List ℕ)) → AreQuiet ways ls (line ∷ rest) → stop_at ways (line ∷ rest) ≡ None → AreQuiet ways (ls ++ line ∷ []) rest
 quiet-push ways [] line rest h none = (none, tt)
 quiet-push ways (l ∷ ls) line rest h none =
     let same : (ls ++ line ∷ []) ++ rest ≡ ls ++ line ∷ rest = append_assoc ls (line ∷ []) rest in
     (ap (λ more. stop_at ways (l ∷ more)) same ∙ h.0, quiet-push ways ls line rest h.1 none)
 
-pub region-push : (ways : Ways) (text : List ℕ) (at : ℕ) (region : List (List ℕ)) (place end : ℕ) → IsRegion ways text at region place → IsLineAt text place end → stop_at ways (lines (drop place text)) ≡ None
+pub region-push : (ways : ReadOptions) (text : List ℕ) (at : ℕ) (region : List (List ℕ)) (place end : ℕ) → IsRegion ways text at region place → IsLineAt text place end → stop_at ways (lines (drop place text)) ≡ None
     → IsRegion ways text at (region ++ slice_range text place end ∷ []) end
 region-push ways text at region place end h line none =
     let one = slice_range text place end in
@@ -79,7 +79,7 @@ unfolding lines
 no-lines = refl
 
 -- where something stands, the text goes on
-pub stands-within : (ways : Ways) (text : List ℕ) (place : ℕ) (stop : Stop) → place ≤ length text → stop_at ways (lines (drop place text)) ≡ Some stop → place < length text
+pub stands-within : (ways : ReadOptions) (text : List ℕ) (place : ℕ) (stop : Stop) → place ≤ length text → stop_at ways (lines (drop place text)) ≡ Some stop → place < length text
 stands-within ways text place stop le h = by (ltb place (length text)) refl
   where
     by : (v : Bool) → ltb place (length text) ≡ v → place < length text

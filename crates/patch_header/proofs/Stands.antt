@@ -7,7 +7,7 @@ use Rattle.num_text.specs.Numbers.{is_digit}
 use Rattle.patch_header.specs.Content.{content, is_binary}
 use Rattle.patch_header.specs.Openings.{admits, begins, begins_binary, opens, stops_binary, tells_binary, is_passed_over, stops_bare, stop_at}
 use Rattle.patch_header.specs.GitHeaders.{begins_bare}
-use Rattle.patch_header.specs.declared.ways.Ways.{Ways}
+use Rattle.patch_header.specs.declared.read_options.ReadOptions.{ReadOptions}
 use Rattle.patch_header.specs.declared.openings.Stop.{Stop}
 use Rattle.patch_header.specs.declared.openings.Stop.TheVariants.{Opening, Binary, Bare}
 pub use Rattle.patch_header.proofs.Fronts.{front, and_left, and_right, or_cases}
@@ -189,25 +189,25 @@ picked only rest Context = refl
 picked only rest Normal = refl
 picked only rest Ed = refl
 
-pub stop-opens : (ways : Ways) (f : Form) (rest : List (List ℕ)) → stop_at ways rest ≡ Some (Opening f) → opens ways.only f rest ≡ true
+pub stop-opens : (ways : ReadOptions) (f : Form) (rest : List (List ℕ)) → stop_at ways rest ≡ Some (Opening f) → opens ways.only f rest ≡ true
 unfolding stop_at
 stop-opens ways f rest h = sym (picked ways.only rest f) ∙ told (opens ways.only Unified rest) (opens ways.only Context rest) (opens ways.only Normal rest) (opens ways.only Ed rest) (stops_binary ways rest) (stops_bare ways rest) f h
 
 other-shut : (only : Option Form) (f g : Form) (rest : List (List ℕ)) → (f ≡ g → ⊥) → opens only f rest ≡ true → opens only g rest ≡ false
 other-shut only f g rest ne h = is_no (opens only g rest) (λ k. ne (alone only f g rest (and_right (admits only f) _ h) (and_right (admits only g) _ k)))
 
-opens-stop : (ways : Ways) (f : Form) (rest : List (List ℕ)) → opens ways.only f rest ≡ true → stop_at ways rest ≡ Some (Opening f)
+opens-stop : (ways : ReadOptions) (f : Form) (rest : List (List ℕ)) → opens ways.only f rest ≡ true → stop_at ways rest ≡ Some (Opening f)
 unfolding stop_at
 opens-stop ways Unified rest h = rw h refl
 opens-stop ways Context rest h = rw (other-shut ways.only Context Unified rest (λ e. absurd cc) h, h) refl
 opens-stop ways Normal rest h = rw (other-shut ways.only Normal Unified rest (λ e. absurd cc) h, other-shut ways.only Normal Context rest (λ e. absurd cc) h, h) refl
 opens-stop ways Ed rest h = rw (other-shut ways.only Ed Unified rest (λ e. absurd cc) h, other-shut ways.only Ed Context rest (λ e. absurd cc) h, other-shut ways.only Ed Normal rest (λ e. absurd cc) h, h) refl
 
-pub opening-words : (ways : Ways) (f : Form) (rest : List (List ℕ)) → stop_at ways rest ≡ Some (Opening f) ↔ opens ways.only f rest ≡ true
+pub opening-words : (ways : ReadOptions) (f : Form) (rest : List (List ℕ)) → stop_at ways rest ≡ Some (Opening f) ↔ opens ways.only f rest ≡ true
 opening-words ways f rest = (λ h. stop-opens ways f rest h, λ h. opens-stop ways f rest h)
 
 -- where no form opens, the last two tests are left
-stop-none : (ways : Ways) (rest : List (List ℕ)) → ((f : Form) → opens ways.only f rest ≡ false) → stop_at ways rest ≡ cond (stops_binary ways rest) (Some Binary) (cond (stops_bare ways rest) (Some Bare) None)
+stop-none : (ways : ReadOptions) (rest : List (List ℕ)) → ((f : Form) → opens ways.only f rest ≡ false) → stop_at ways rest ≡ cond (stops_binary ways rest) (Some Binary) (cond (stops_bare ways rest) (Some Bare) None)
 unfolding stop_at
 stop-none ways rest h = rw (h Unified, h Context, h Normal, h Ed) refl
 
@@ -217,7 +217,7 @@ shut-binary only f rest h = is_no (opens only f rest) (λ k. let b : begins_bina
 shut-bare : (only : Option Form) (f : Form) (rest : List (List ℕ)) → begins_bare rest ≡ true → opens only f rest ≡ false
 shut-bare only f rest h = is_no (opens only f rest) (λ k. let b : begins only f rest ≡ false = bare-shut only f rest h in let c : begins only f rest ≡ true = and_right (admits only f) _ k in absurd cc)
 
-pub binary-words : (ways : Ways) (rest : List (List ℕ)) → stop_at ways rest ≡ Some Binary ↔ stops_binary ways rest ≡ true
+pub binary-words : (ways : ReadOptions) (rest : List (List ℕ)) → stop_at ways rest ≡ Some Binary ↔ stops_binary ways rest ≡ true
 unfolding stop_at
 binary-words ways rest = (
   λ h. told-binary (opens ways.only Unified rest) (opens ways.only Context rest) (opens ways.only Normal rest) (opens ways.only Ed rest) (stops_binary ways rest) (stops_bare ways rest) h,
@@ -229,7 +229,7 @@ and_no true w h = h
 and_no false w h = refl
 
 -- what stands is a bare git header
-pub stops-begins : (ways : Ways) (rest : List (List ℕ)) → stops_bare ways rest ≡ true → begins_bare rest ≡ true
+pub stops-begins : (ways : ReadOptions) (rest : List (List ℕ)) → stops_bare ways rest ≡ true → begins_bare rest ≡ true
 stops-begins ways rest h = and_left (begins_bare rest) _ (and_right ways.git _ h)
 
 none-passed : (s t : Bool) → t ≡ false → not (s && t) ≡ true
@@ -237,34 +237,34 @@ none-passed true t h = ap not h
 none-passed false t h = refl
 
 -- one that no binary line follows directly stands
-pub stops-by : (ways : Ways) (rest : List (List ℕ)) → ways.git ≡ true → begins_bare rest ≡ true → tells_binary rest ≡ false → stops_bare ways rest ≡ true
+pub stops-by : (ways : ReadOptions) (rest : List (List ℕ)) → ways.git ≡ true → begins_bare rest ≡ true → tells_binary rest ≡ false → stops_bare ways rest ≡ true
 stops-by ways rest git bare other =
     ap (λ v. v && (begins_bare rest && not (is_passed_over ways rest))) git
     ∙ ap (λ v. v && not (is_passed_over ways rest)) bare
     ∙ none-passed ways.skip_binary (tells_binary rest) other
 
 -- where none begins, none stands
-pub stops-not : (ways : Ways) (rest : List (List ℕ)) → begins_bare rest ≡ false → stops_bare ways rest ≡ false
+pub stops-not : (ways : ReadOptions) (rest : List (List ℕ)) → begins_bare rest ≡ false → stops_bare ways rest ≡ false
 stops-not ways rest h = ap (λ v. ways.git && (v && not (is_passed_over ways rest))) h ∙ and_no ways.git false refl
 
 and-yes : (v : Bool) → (v && true) ≡ v
 and-yes true = refl
 and-yes false = refl
 
-pub stops-plain : (ways : Ways) (rest : List (List ℕ)) → ways.skip_binary ≡ false → stops_bare ways rest ≡ (ways.git && begins_bare rest)
+pub stops-plain : (ways : ReadOptions) (rest : List (List ℕ)) → ways.skip_binary ≡ false → stops_bare ways rest ≡ (ways.git && begins_bare rest)
 stops-plain ways rest h = ap (λ s. ways.git && (begins_bare rest && not (s && tells_binary rest))) h ∙ ap (λ v. ways.git && v) (and-yes (begins_bare rest))
 
-pub stops-skipped : (ways : Ways) (rest : List (List ℕ)) → ways.skip_binary ≡ true → tells_binary rest ≡ true → stops_bare ways rest ≡ false
+pub stops-skipped : (ways : ReadOptions) (rest : List (List ℕ)) → ways.skip_binary ≡ true → tells_binary rest ≡ true → stops_bare ways rest ≡ false
 stops-skipped ways rest s t =
     ap (λ v. ways.git && (begins_bare rest && not (v && tells_binary rest))) s
     ∙ ap (λ v. ways.git && (begins_bare rest && not v)) t
     ∙ ap (λ v. ways.git && v) (and_no (begins_bare rest) false refl)
     ∙ and_no ways.git false refl
 
-bare-no_text : (ways : Ways) (rest : List (List ℕ)) → stops_bare ways rest ≡ true → stops_binary ways rest ≡ false
+bare-no_text : (ways : ReadOptions) (rest : List (List ℕ)) → stops_bare ways rest ≡ true → stops_binary ways rest ≡ false
 bare-no_text ways rest h = is_no (stops_binary ways rest) (λ k. let b : begins_binary rest ≡ false = bare-text rest (stops-begins ways rest h) in let c : begins_binary rest ≡ true = and_right (not ways.skip_binary) _ k in absurd cc)
 
-pub bare-words : (ways : Ways) (rest : List (List ℕ)) → stop_at ways rest ≡ Some Bare ↔ stops_bare ways rest ≡ true
+pub bare-words : (ways : ReadOptions) (rest : List (List ℕ)) → stop_at ways rest ≡ Some Bare ↔ stops_bare ways rest ≡ true
 unfolding stop_at
 bare-words ways rest = (
   λ h. told-bare (opens ways.only Unified rest) (opens ways.only Context rest) (opens ways.only Normal rest) (opens ways.only Ed rest) (stops_binary ways rest) (stops_bare ways rest) h,
@@ -273,7 +273,7 @@ bare-words ways rest = (
       ∙ ap (λ v. cond v (Some Bare) None) h,
 )
 
-pub nothing-words : (ways : Ways) (rest : List (List ℕ)) → (stop_at ways rest ≡ None) ↔ (((f : Form) → opens ways.only f rest ≡ false) × (stops_binary ways rest ≡ false) × (stops_bare ways rest ≡ false))
+pub nothing-words : (ways : ReadOptions) (rest : List (List ℕ)) → (stop_at ways rest ≡ None) ↔ (((f : Form) → opens ways.only f rest ≡ false) × (stops_binary ways rest ≡ false) × (stops_bare ways rest ≡ false))
 unfolding stop_at
 nothing-words ways rest = (
   λ h. let all = told-none (opens ways.only Unified rest) (opens ways.only Context rest) (opens ways.only Normal rest) (opens ways.only Ed rest) (stops_binary ways rest) (stops_bare ways rest) h in (λ f. sym (picked ways.only rest f) ∙ all.0 f, all.1, all.2),
@@ -285,7 +285,7 @@ unfolding begins_bare
 no-git = refl
 
 -- nothing stands where no line is left
-pub stop-end : (ways : Ways) → stop_at ways [] ≡ None
+pub stop-end : (ways : ReadOptions) → stop_at ways [] ≡ None
 stop-end ways = (nothing-words ways []).1 (λ f. shut f, and_no (not ways.skip_binary) false refl, stops-not ways [] no-git)
   where
     shut : (f : Form) → opens ways.only f [] ≡ false

@@ -4,8 +4,8 @@ use Rattle.std.specs.List.{list_any}
 use Rattle.hunk_core.specs.LineTests.{after}
 use Rattle.patch_header.specs.Content.{content}
 use Rattle.patch_header.specs.NamesFit.{old_fits, new_fits}
-use Rattle.header_record.specs.declared.Action.{Action}
-use Rattle.header_record.specs.declared.Action.TheVariants.{Plain, New, Deleted, Rename, Copy}
+use Rattle.read_header_record.specs.declared.Action.{Action}
+use Rattle.read_header_record.specs.declared.Action.TheVariants.{Plain, New, Deleted, Rename, Copy}
 
 -- a line begins with these bytes
 abbrev pub starts : List ℕ → List ℕ → Bool

@@ -7,14 +7,14 @@ use Rattle.hunk_core.specs.declared.Form.{Form}
 use Rattle.hunk_core.specs.declared.Form.TheVariants.{Unified, Context, Normal, Ed}
 use Rattle.patch_header.specs.GitHeaders.{starts, is_git_line, is_extended, extended_run, has_line, action_of}
 use Rattle.patch_header.specs.Region.{Row, row, rows, tail_of, first_some, last_tail, later}
-use Rattle.header_record.specs.Quoted.{begins_quoted}
+use Rattle.read_header_record.specs.Quoted.{begins_quoted}
 use Rattle.patch_header.specs.Values.{blanks, length_or, word_length, span_at, bytes_of}
 use Rattle.patch_header.specs.declared.git_names.Pair.{Pair}
 use Rattle.patch_header.specs.declared.region.Tail.{Tail}
-use Rattle.patch_header.specs.declared.region.Seen.{Seen}
-use Rattle.patch_header.specs.declared.ways.Ways.{Ways}
-use Rattle.header_record.specs.declared.Action.{Action}
-use Rattle.header_record.specs.declared.Action.TheVariants.{Plain, New, Deleted, Rename, Copy}
+use Rattle.patch_header.specs.declared.region.LastHeaderLines.{LastHeaderLines}
+use Rattle.patch_header.specs.declared.read_options.ReadOptions.{ReadOptions}
+use Rattle.read_header_record.specs.declared.Action.{Action}
+use Rattle.read_header_record.specs.declared.Action.TheVariants.{Plain, New, Deleted, Rename, Copy}
 use Rattle.patch_header.specs.declared.git_lines.GitLines.{GitLines}
 
 -- the bytes of lines alone
@@ -209,13 +209,13 @@ is_unified Normal = false
 is_unified Ed = false
 
 -- the extended lines that count for an opening of a form behind these lines
-abbrev pub led_by : Ways → Form → List Row → List Row
+abbrev pub led_by : ReadOptions → Form → List Row → List Row
 led_by ways form rs = if ways.git && is_unified form then led_rows rs else []
 
 -- a git header stands directly in front of an opening behind these lines, and leads it
-abbrev pub led_directly : Ways → Form → List Row → Bool
+abbrev pub led_directly : ReadOptions → Form → List Row → Bool
 led_directly ways form rs = (ways.git && is_unified form) && ends_with_git rs
 
 -- what names the file: where a git header stands directly in front, its git line alone, as an `Index:` line would
-abbrev pub seen_by : List ℕ → Bool → Seen → Seen
+abbrev pub seen_by : List ℕ → Bool → LastHeaderLines → LastHeaderLines
 seen_by text direct s = if direct then record { minus = None; plus = None; stars = None; index = git_name text s.git; prereq = s.prereq; git = s.git } else s

@@ -9,12 +9,12 @@ use Rattle.patch_header.specs.Said.{action_said, from_said, to_said}
 use Rattle.patch_header.specs.Steps.{names_line}
 use Rattle.patch_header.specs.Values.{name_in, index_in, word_in, stamp_in}
 use Rattle.patch_header.specs.declared.region.Tail.{Tail}
-use Rattle.patch_header.specs.declared.region.Seen.{Seen}
+use Rattle.patch_header.specs.declared.region.LastHeaderLines.{LastHeaderLines}
 use Rattle.patch_header.specs.declared.git_lines.GitLines.{GitLines}
-use Rattle.header_record.specs.declared.Header.{Header}
+use Rattle.read_header_record.specs.declared.Header.{Header}
 
 -- the header of an opening behind these lines, with what the git header says that leads it
-abbrev pub opening_said : List ℕ → Form → ℕ → ℕ → Seen → GitLines → Header
+abbrev pub opening_said : List ℕ → Form → ℕ → ℕ → LastHeaderLines → GitLines → Header
 opening_said text form at opening seen s = record {
   form = form;
   at = at;

@@ -1,4 +1,4 @@
-pub mod Ways
+pub mod ReadOptions
 pub mod Content
 pub mod Openings
 pub mod Region

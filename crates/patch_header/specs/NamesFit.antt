@@ -2,7 +2,7 @@
 use Rattle.std.specs.Prelude.{ℕ, ◌-◌, Bool, false, not, ◌&&◌, ◌||◌, ◌==◌, nat_lt, nat_eq, List, [], length, take, drop, slice_index, bytes_eq, is_some, unwrap_or, Option, None, Some, codes, if◌then◌else◌}
 use Rattle.std.specs.List.{list_any, ends_with}
 use Rattle.hunk_core.specs.LineTests.{after}
-use Rattle.header_record.specs.Quoted.{begins_quoted}
+use Rattle.read_header_record.specs.Quoted.{begins_quoted}
 use Rattle.patch_header.specs.Content.{content}
 use Rattle.patch_header.specs.Values.{unblanked, name_length, index_length}
 

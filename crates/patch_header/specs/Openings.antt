@@ -11,7 +11,7 @@ use Rattle.context_form.specs.Openings as context
 use Rattle.normal_form.specs.Hunks as normal
 use Rattle.patch_header.specs.Content.{is_binary, has_dot}
 use Rattle.patch_header.specs.GitHeaders.{behind_run, begins_bare}
-use Rattle.patch_header.specs.declared.ways.Ways.{Ways}
+use Rattle.patch_header.specs.declared.read_options.ReadOptions.{ReadOptions}
 use Rattle.patch_header.specs.declared.openings.Stop.{Stop}
 use Rattle.patch_header.specs.declared.openings.Stop.TheVariants.{Opening, Binary, Bare}
 
@@ -62,7 +62,7 @@ begins_binary [] = false
 begins_binary (line ∷ rest) = is_binary line
 
 -- a binary line that isn't passed over is the first of these lines
-abbrev pub stops_binary : Ways → List (List ℕ) → Bool
+abbrev pub stops_binary : ReadOptions → List (List ℕ) → Bool
 stops_binary ways rest = not ways.skip_binary && begins_binary rest
 
 -- the line directly behind the git header that begins these lines is a binary line
@@ -71,15 +71,15 @@ tells_binary [] = false
 tells_binary (line ∷ rest) = begins_binary (behind_run rest)
 
 -- such a header is a part of the binary change; where binary lines are passed over, so is it
-abbrev pub is_passed_over : Ways → List (List ℕ) → Bool
+abbrev pub is_passed_over : ReadOptions → List (List ℕ) → Bool
 is_passed_over ways rest = ways.skip_binary && tells_binary rest
 
 -- a bare git header begins these lines, where git headers are read, and isn't passed over with a binary change
-abbrev pub stops_bare : Ways → List (List ℕ) → Bool
+abbrev pub stops_bare : ReadOptions → List (List ℕ) → Bool
 stops_bare ways rest = ways.git && (begins_bare rest && not (is_passed_over ways rest))
 
 -- what stands at the first of these lines; no line has two of them, so the order of the tests tells nothing
-unfoldable pub stop_at : Ways → List (List ℕ) → Option Stop
+unfoldable pub stop_at : ReadOptions → List (List ℕ) → Option Stop
 stop_at ways rest = if opens ways.only Unified rest then Some (Opening Unified)
     else if opens ways.only Context rest then Some (Opening Context)
     else if opens ways.only Normal rest then Some (Opening Normal)

@@ -5,7 +5,7 @@ use Rattle.hunk_core.specs.declared.Form.TheVariants.{Unified, Context, Normal, 
 use Rattle.hunk_core.specs.LineTests.{after}
 use Rattle.patch_header.specs.Content.{content}
 use Rattle.patch_header.specs.declared.region.Tail.{Tail}
-use Rattle.patch_header.specs.declared.region.Seen.{Seen}
+use Rattle.patch_header.specs.declared.region.LastHeaderLines.{LastHeaderLines}
 
 -- a line of a text: its number, the place where it begins, and its bytes
 pub record Row : Type 0 where
@@ -40,7 +40,7 @@ later last new = if is_some new then new else last
 
 -- the last line of each kind. Each line `*** ` of the region counts. Where one form is asked for the lines of others are of
 -- the region of the next file patch
-abbrev pub seen_in : List Row → Seen
+abbrev pub seen_in : List Row → LastHeaderLines
 seen_in rs = record {
   minus = last_tail (codes "--- ") rs;
   plus = last_tail (codes "+++ ") rs;
@@ -51,14 +51,14 @@ seen_in rs = record {
 }
 
 -- the last line of the old name: '--- ' in the unified form, '*** ' in the context form
-abbrev pub old_tail : Form → Seen → Option Tail
+abbrev pub old_tail : Form → LastHeaderLines → Option Tail
 old_tail Unified s = s.minus
 old_tail Context s = s.stars
 old_tail Normal s = None
 old_tail Ed s = None
 
 -- the last line of the new name: '+++ ' in the unified form, '--- ' in the context form
-abbrev pub new_tail : Form → Seen → Option Tail
+abbrev pub new_tail : Form → LastHeaderLines → Option Tail
 new_tail Unified s = s.plus
 new_tail Context s = s.minus
 new_tail Normal s = None
@@ -69,7 +69,7 @@ pub record LiesIn (text : List ℕ) (t : Tail) : Type 0 where
   pub low : t.start ≤ t.end
   pub high : t.end ≤ length text
 
-pub record AllLieIn (text : List ℕ) (s : Seen) : Type 0 where
+pub record AllLieIn (text : List ℕ) (s : LastHeaderLines) : Type 0 where
   pub minus : IfSome s.minus (LiesIn text)
   pub plus : IfSome s.plus (LiesIn text)
   pub stars : IfSome s.stars (LiesIn text)

@@ -6,9 +6,9 @@ use Rattle.hunk_core.specs.declared.Form.{Form}
 use Rattle.patch_header.specs.GitHeaders.{starts, is_git_line, is_extended, is_plain}
 use Rattle.patch_header.specs.GitRows.{old_mode_of, new_mode_of, git_lines_in, whole_in, header_back, old_name_back, new_name_back, is_unified}
 use Rattle.patch_header.specs.Region.{Row, tail_of, later, LiesIn}
-use Rattle.patch_header.specs.declared.ways.Ways.{Ways}
-use Rattle.header_record.specs.declared.Action.{Action}
-use Rattle.header_record.specs.declared.Action.TheVariants.{Plain, New, Deleted, Rename, Copy}
+use Rattle.patch_header.specs.declared.read_options.ReadOptions.{ReadOptions}
+use Rattle.read_header_record.specs.declared.Action.{Action}
+use Rattle.read_header_record.specs.declared.Action.TheVariants.{Plain, New, Deleted, Rename, Copy}
 use Rattle.patch_header.specs.declared.git_lines.GitLines.{GitLines}
 use Rattle.patch_header.specs.declared.git_trail.GitTrail.{GitTrail}
 
@@ -98,10 +98,10 @@ abbrev pub led_in : GitTrail → GitLines
 led_in t = or_nothing (option_or t.new_name t.header)
 
 -- what counts for an opening of a form
-abbrev pub led_said : Ways → Form → GitTrail → GitLines
+abbrev pub led_said : ReadOptions → Form → GitTrail → GitLines
 led_said ways form t = if ways.git && is_unified form then led_in t else git_lines_in []
 
-abbrev pub leads_directly : Ways → Form → GitTrail → Bool
+abbrev pub leads_directly : ReadOptions → Form → GitTrail → Bool
 leads_directly ways form t = (ways.git && is_unified form) && is_some t.header
 
 -- ---- what was kept lies in the text

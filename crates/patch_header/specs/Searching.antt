@@ -3,11 +3,11 @@ use Rattle.std.specs.Prelude.{◌≡◌, ℕ, ◌+◌, ◌≤◌, ◌^◌, true,
 use Rattle.patch_header.specs.Region.{rows, seen_in, AllLieIn}
 use Rattle.patch_header.specs.Said.{trail_in, TrailsWithin}
 use Rattle.patch_header.specs.Steps.{IsRegion}
-use Rattle.patch_header.specs.declared.ways.Ways.{Ways}
+use Rattle.patch_header.specs.declared.read_options.ReadOptions.{ReadOptions}
 use Rattle.patch_header.specs.declared.search.Search.{Search}
 
 -- nothing stands at the lines up to here, and the last of each kind among them are known
-pub record HasPassed (ways : Ways) (text : List ℕ) (at line : ℕ) (here : Search) : Type 0 where
+pub record HasPassed (ways : ReadOptions) (text : List ℕ) (at line : ℕ) (here : Search) : Type 0 where
   pub region : List (List ℕ)
   pub is_region : IsRegion ways text at region here.at
   pub number : here.number ≡ line + length region

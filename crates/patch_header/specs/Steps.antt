@@ -14,20 +14,20 @@ use Rattle.patch_header.specs.Values.{name_in, index_in, word_in, stamp_in, IsPi
 use Rattle.patch_header.specs.declared.openings.Stop.{Stop}
 use Rattle.patch_header.specs.declared.openings.Stop.TheVariants as stops
 use Rattle.patch_header.specs.declared.region.Tail.{Tail}
-use Rattle.patch_header.specs.declared.region.Seen.{Seen}
-use Rattle.header_record.specs.declared.Header.{Header}
-use Rattle.patch_header.specs.declared.ways.Ways.{Ways}
-use Rattle.header_record.specs.declared.Action.TheVariants.{Plain}
+use Rattle.patch_header.specs.declared.region.LastHeaderLines.{LastHeaderLines}
+use Rattle.read_header_record.specs.declared.Header.{Header}
+use Rattle.patch_header.specs.declared.read_options.ReadOptions.{ReadOptions}
+use Rattle.read_header_record.specs.declared.Action.TheVariants.{Plain}
 use Rattle.patch_header.specs.declared.search.HeaderStep.{HeaderStep}
 use Rattle.patch_header.specs.declared.search.HeaderStep.TheVariants.{Found, Binary, End}
 
 -- nothing stands at any of these lines, which others follow
-abbrev pub AreQuiet : Ways → List (List ℕ) → List (List ℕ) → Type 0
+abbrev pub AreQuiet : ReadOptions → List (List ℕ) → List (List ℕ) → Type 0
 AreQuiet ways [] rest = Unit {0}
 AreQuiet ways (line ∷ more) rest = (stop_at ways (line ∷ (more ++ rest)) ≡ None) × AreQuiet ways more rest
 
 -- from a place up to another go these lines, and nothing stands at any of them
-pub record IsRegion (ways : Ways) (text : List ℕ) (at : ℕ) (region : List (List ℕ)) (place : ℕ) : Type 0 where
+pub record IsRegion (ways : ReadOptions) (text : List ℕ) (at : ℕ) (region : List (List ℕ)) (place : ℕ) : Type 0 where
   pub parts : lines (drop at text) ≡ region ++ lines (drop place text)
   pub ends : place ≡ at + sum_by length region
   pub quiet : AreQuiet ways region (lines (drop place text))
@@ -39,7 +39,7 @@ names_line (Some t) None opening = opening
 names_line (Some t) (Some s) opening = t.number
 
 -- what the header of an opening says, by the lines in front of it, and by the extended lines of the git header that leads it
-abbrev pub header_with : List ℕ → Form → ℕ → ℕ → Seen → List Row → Header
+abbrev pub header_with : List ℕ → Form → ℕ → ℕ → LastHeaderLines → List Row → Header
 header_with text form at opening seen gs = record {
   form = form;
   at = at;
@@ -81,17 +81,17 @@ bare_with text at number rs = record {
 }
 
 -- what counts of the lines in front of an opening
-abbrev pub seen_for : Ways → Form → List ℕ → List Row → Seen
+abbrev pub seen_for : ReadOptions → Form → List ℕ → List Row → LastHeaderLines
 seen_for ways form text rs = seen_by text (led_directly ways form rs) (seen_in rs)
 
 -- the header of what stands at a place behind these lines; a binary line has none
-abbrev pub header_at : Ways → List ℕ → ℕ → ℕ → List Row → Stop → Option Header
+abbrev pub header_at : ReadOptions → List ℕ → ℕ → ℕ → List Row → Stop → Option Header
 header_at ways text place number rs (stops.Opening form) = Some (header_with text form place number (seen_for ways form text rs) (led_by ways form rs))
 header_at ways text place number rs stops.Bare = Some (bare_with text place number rs)
 header_at ways text place number rs stops.Binary = None
 
 -- the first that stands at a line from a place on is an opening or a bare git header, and says this
-pub record IsFirstOpening (ways : Ways) (text : List ℕ) (at line : ℕ) (h : Header) : Type 0 where
+pub record IsFirstOpening (ways : ReadOptions) (text : List ℕ) (at line : ℕ) (h : Header) : Type 0 where
   pub region : List (List ℕ)
   pub place : ℕ
   pub stop : Stop
@@ -100,7 +100,7 @@ pub record IsFirstOpening (ways : Ways) (text : List ℕ) (at line : ℕ) (h : H
   pub says : header_at ways text place (line + length region) (rows line at region) stop ≡ Some h
 
 -- the first that stands at a line from a place on is a binary line with this number
-pub record IsFirstBinary (ways : Ways) (text : List ℕ) (at line number : ℕ) : Type 0 where
+pub record IsFirstBinary (ways : ReadOptions) (text : List ℕ) (at line number : ℕ) : Type 0 where
   pub region : List (List ℕ)
   pub place : ℕ
   pub is_region : IsRegion ways text at region place
@@ -108,22 +108,22 @@ pub record IsFirstBinary (ways : Ways) (text : List ℕ) (at line number : ℕ) 
   pub counted : number ≡ line + length region
 
 -- nothing stands at any line from a place on
-abbrev pub IsEnd : Ways → List ℕ → ℕ → Type 0
+abbrev pub IsEnd : ReadOptions → List ℕ → ℕ → Type 0
 IsEnd ways text at = AreQuiet ways (lines (drop at text)) []
 
 -- what comes next from a place on, whose line has this number
-abbrev pub Comes : Ways → List ℕ → ℕ → ℕ → HeaderStep → Type 0
+abbrev pub Comes : ReadOptions → List ℕ → ℕ → ℕ → HeaderStep → Type 0
 Comes ways text at line (Found h) = IsFirstOpening ways text at line h
 Comes ways text at line (Binary number) = IsFirstBinary ways text at line number
 Comes ways text at line End = IsEnd ways text at
 
 -- the lines in front of the first at which something stands, or all
-unfoldable pub region_of : Ways → List (List ℕ) → List (List ℕ)
+unfoldable pub region_of : ReadOptions → List (List ℕ) → List (List ℕ)
 region_of ways [] = []
 region_of ways (line ∷ rest) = if is_some (stop_at ways (line ∷ rest)) then [] else line ∷ region_of ways rest
 
 -- the first that stands at one of these lines
-unfoldable pub first_stop : Ways → List (List ℕ) → Option Stop
+unfoldable pub first_stop : ReadOptions → List (List ℕ) → Option Stop
 first_stop ways [] = None
 first_stop ways (line ∷ rest) = if is_some (stop_at ways (line ∷ rest)) then stop_at ways (line ∷ rest) else first_stop ways rest
 
@@ -133,12 +133,12 @@ found_or number None = Binary number
 found_or number (Some h) = Found h
 
 -- what comes next, behind these lines
-abbrev pub step_behind : Ways → List ℕ → ℕ → ℕ → List (List ℕ) → Option Stop → HeaderStep
+abbrev pub step_behind : ReadOptions → List ℕ → ℕ → ℕ → List (List ℕ) → Option Stop → HeaderStep
 step_behind ways text at line region None = End
 step_behind ways text at line region (Some stop) = found_or (line + length region) (header_at ways text (at + sum_by length region) (line + length region) (rows line at region) stop)
 
 -- the same as a function
-abbrev pub next_step : Ways → List ℕ → ℕ → ℕ → HeaderStep
+abbrev pub next_step : ReadOptions → List ℕ → ℕ → ℕ → HeaderStep
 next_step ways text at line = step_behind ways text at line (region_of ways (lines (drop at text))) (first_stop ways (lines (drop at text)))
 
 -- each name and each mode of a header is a piece of the text
@@ -153,12 +153,12 @@ pub record HasPieces (text : List ℕ) (h : Header) : Type 0 where
   pub new_mode : IfSome h.new_mode (IsPieceOf text)
 
 -- an opening of its form, which is admitted, stands at its place
-pub record IsOpeningAt (ways : Ways) (text : List ℕ) (h : Header) : Type 0 where
+pub record IsOpeningAt (ways : ReadOptions) (text : List ℕ) (h : Header) : Type 0 where
   pub admitted : admits ways.only h.form ≡ true
   pub begins : begins ways.only h.form (lines (drop h.at text)) ≡ true
 
 -- git headers are read, and a bare one begins at its place
-pub record IsBareAt (ways : Ways) (text : List ℕ) (h : Header) : Type 0 where
+pub record IsBareAt (ways : ReadOptions) (text : List ℕ) (h : Header) : Type 0 where
   pub git : ways.git ≡ true
   pub form : h.form ≡ Unified
   pub begins : begins_bare (lines (drop h.at text)) ≡ true
@@ -173,7 +173,7 @@ pub record IsUnled (h : Header) : Type 0 where
   pub new_mode : h.new_mode ≡ None
 
 -- where a header lies, and what stands there
-pub record LiesBehind (ways : Ways) (text : List ℕ) (at line : ℕ) (h : Header) : Type 0 where
+pub record LiesBehind (ways : ReadOptions) (text : List ℕ) (at line : ℕ) (h : Header) : Type 0 where
   pub low : at ≤ h.at
   pub high : h.at < length text
   pub numbers : h.opening + at ≤ line + h.at
@@ -183,7 +183,7 @@ pub record LiesBehind (ways : Ways) (text : List ℕ) (at line : ℕ) (h : Heade
   pub pieces : HasPieces text h
 
 -- what follows for the caller
-abbrev pub Lies : Ways → List ℕ → ℕ → ℕ → HeaderStep → Type 0
+abbrev pub Lies : ReadOptions → List ℕ → ℕ → ℕ → HeaderStep → Type 0
 Lies ways text at line (Found h) = LiesBehind ways text at line h
 Lies ways text at line (Binary number) = Unit {0}
 Lies ways text at line End = Unit {0}

@@ -2,7 +2,7 @@
 use Rattle.std.specs.Prelude.{ℕ, ◌+◌, ◌<◌, ◌≤◌, Bool, not, ◌||◌, ◌==◌, List, length, drop, slice_range, unwrap_or, Option, None, Some, if◌then◌else◌}
 use Rattle.std.specs.List.{position}
 use Rattle.line_list.specs.declared.Span.{Span}
-use Rattle.header_record.specs.Quoted.{begins_quoted, quoted_length}
+use Rattle.read_header_record.specs.Quoted.{begins_quoted, quoted_length}
 use Rattle.stamp.specs.Reading.{stamp_of}
 use Rattle.stamp.specs.declared.Stamp.{Stamp}
 use Rattle.stamp.specs.declared.Stamp.TheVariants.{Unknown}

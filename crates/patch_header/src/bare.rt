@@ -18,11 +18,11 @@ use crate::git_lines::{
 };
 use crate::git_names::{new_half, old_half};
 use crate::names_fit::{new_fits, old_fits};
-use crate::region::{Seen, Tail, tail_of};
+use crate::region::{LastHeaderLines, Tail, tail_of};
 use crate::values::{index_in, whole_in, word_in};
-use header_record::Header;
 use hunk_core::{Form, after_prefix};
 use line_list::next_line;
+use read_header_record::Header;
 use stamp::Stamp;
 
 /// Extended lines up to a place, where the line has this number.
@@ -185,7 +185,7 @@ fn bare_header(
     text: &[u8],
     at: usize,
     number: u64,
-    seen: Seen,
+    seen: LastHeaderLines,
     rest: Option<Tail>,
     lines: GitLines,
 ) -> Header
@@ -221,7 +221,7 @@ fn bare_header(
 }
 
 /// The header of the bare git header that begins with the line from `at` up to `end`, which has this number.
-pub fn bare_of(text: &[u8], at: usize, end: usize, number: u64, seen: Seen) -> Header
+pub fn bare_of(text: &[u8], at: usize, end: usize, number: u64, seen: LastHeaderLines) -> Header
     requires short { length text.now < 2 ^ 32 }
     requires small { number ≤ 2 ^ 32 + at }
     requires line { IsLineAt text.now at end }

@@ -11,9 +11,9 @@ ghost use Rattle.patch_header.specs.Said.{said_with, has_rename, has_copy, actio
 use crate::content::content;
 use crate::region::{Tail, later, tail_of};
 use crate::values::whole_in;
-use header_record::Action;
 use hunk_core::after_prefix;
 use line_list::Span;
+use read_header_record::Action;
 
 /// The extended lines of a git header: whether there is one of a kind, or the last of a kind.
 #[derive(Clone, Copy)]

@@ -9,8 +9,8 @@ ghost use Rattle.patch_header.specs.Values.{IsPieceOf};
 use crate::region::Tail;
 use crate::values::{blanks, length_or, span_at, word_length};
 use bstr::ByteSlice;
-use header_record::begins_quoted;
 use line_list::Span;
+use read_header_record::begins_quoted;
 
 /// Where two names of a git line stand: how long the old one in front is, where the new one begins, and how long it is.
 #[derive(Clone, Copy)]

@@ -6,10 +6,10 @@ ghost use Rattle.line_list.specs.Lines.{IsLineAt};
 ghost use Rattle.patch_header.specs.Region.{row};
 ghost use Rattle.patch_header.specs.GitRows.{is_unified};
 ghost use Rattle.patch_header.specs.Said.{header_said, kept_if, trail_said, trail_in, led_in, led_said, leads_directly, SaysWithin, TrailsWithin};
-ghost use Rattle.patch_header.specs.declared.ways.Ways.{Ways};
+ghost use Rattle.patch_header.specs.declared.read_options.ReadOptions.{ReadOptions};
 
 use crate::git_lines::{GitLines, is_extended, is_git_line, no_git_lines, starts, with_line};
-use crate::ways::Ways;
+use crate::read_options::ReadOptions;
 use hunk_core::Form;
 
 /// The extended lines of the git header that the lines so far end with, or end with but for a line of the
@@ -135,14 +135,14 @@ fn is_unified(form: Form) -> bool
     }
 }
 
-fn counts(ways: Ways, form: Form) -> bool
+fn counts(ways: ReadOptions, form: Form) -> bool
     ensures { result ≡ (ways.git && is_unified form) }
 {
     ways.git && is_unified(form)
 }
 
 /// The extended lines that count for an opening of this form.
-pub fn led_by(ways: Ways, form: Form, trail: GitTrail) -> GitLines
+pub fn led_by(ways: ReadOptions, form: Form, trail: GitTrail) -> GitLines
     ensures is { result ≡ led_said ways form trail }
     ensures lies { (text : List ℕ) → TrailsWithin text trail → SaysWithin text result }
 {
@@ -154,7 +154,7 @@ pub fn led_by(ways: Ways, form: Form, trail: GitTrail) -> GitLines
 }
 
 /// Whether a git header stands directly in front of an opening of this form, and leads it.
-pub fn leads_directly(ways: Ways, form: Form, trail: GitTrail) -> bool
+pub fn leads_directly(ways: ReadOptions, form: Form, trail: GitTrail) -> bool
     ensures { result ≡ leads_directly ways form trail }
 {
     counts(ways, form) && trail.header.is_some()

@@ -10,11 +10,11 @@ ghost use Rattle.patch_header.specs.Kept.{opening_said};
 
 use crate::git_lines::{GitLines, action_of, from_in, to_in};
 use crate::git_names::git_name;
-use crate::region::{Seen, Tail};
+use crate::region::{LastHeaderLines, Tail};
 use crate::values::{index_in, name_in, stamp_in, whole_in, word_in};
-use header_record::Header;
 use hunk_core::Form;
 use line_list::Span;
+use read_header_record::Header;
 
 fn names_line(tail: Option<Tail>, name: Option<Span>, opening: u64) -> u64
     ensures { result ≡ names_line tail name opening }
@@ -29,7 +29,7 @@ fn names_line(tail: Option<Tail>, name: Option<Span>, opening: u64) -> u64
 }
 
 /// What names the file: where a git header stands directly in front, its git line alone, as an `Index:` line would.
-pub fn seen_by(text: &[u8], direct: bool, seen: Seen) -> Seen
+pub fn seen_by(text: &[u8], direct: bool, seen: LastHeaderLines) -> LastHeaderLines
     requires { AllLieIn text.now seen }
     ensures is { result ≡ seen_by text.now direct seen }
     ensures lies { AllLieIn text.now result }
@@ -37,7 +37,7 @@ pub fn seen_by(text: &[u8], direct: bool, seen: Seen) -> Seen
     if !direct {
         return seen;
     }
-    Seen {
+    LastHeaderLines {
         minus: None,
         plus: None,
         stars: None,
@@ -47,7 +47,7 @@ pub fn seen_by(text: &[u8], direct: bool, seen: Seen) -> Seen
     }
 }
 
-fn old_tail(form: Form, seen: Seen) -> Option<Tail>
+fn old_tail(form: Form, seen: LastHeaderLines) -> Option<Tail>
     ensures is { result ≡ old_tail form seen }
     ensures lies { (text : List ℕ) → AllLieIn text seen → IfSome result (LiesIn text) }
 {
@@ -58,7 +58,7 @@ fn old_tail(form: Form, seen: Seen) -> Option<Tail>
     }
 }
 
-fn new_tail(form: Form, seen: Seen) -> Option<Tail>
+fn new_tail(form: Form, seen: LastHeaderLines) -> Option<Tail>
     ensures is { result ≡ new_tail form seen }
     ensures lies { (text : List ℕ) → AllLieIn text seen → IfSome result (LiesIn text) }
 {
@@ -75,7 +75,7 @@ pub fn header_of(
     form: Form,
     at: usize,
     opening: u64,
-    seen: Seen,
+    seen: LastHeaderLines,
     led: GitLines,
 ) -> Header
     requires short { length text.now < 2 ^ 32 }

@@ -12,9 +12,9 @@ ghost use Rattle.patch_header.specs.Values.{unblanked};
 use crate::content::content;
 use crate::git_lines::is_extended;
 use crate::values::{blanks, index_length, name_length};
-use header_record::begins_quoted;
 use hunk_core::after_prefix;
 use line_list::next_line;
+use read_header_record::begins_quoted;
 
 /// What stands in a line behind these bytes.
 fn behind<'a>(mark: &[u8], line: &'a [u8]) -> &'a [u8]

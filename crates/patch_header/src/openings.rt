@@ -7,11 +7,11 @@ ghost use Rattle.ed_form.specs.Commands.{is_command};
 ghost use Rattle.patch_header.specs.Content.{has_dot};
 ghost use Rattle.patch_header.specs.Openings.{admits, takes_text, asks_dot, begins, begins_binary, opens, stops_binary, tells_binary, is_passed_over, stops_bare, stop_at};
 ghost use Rattle.patch_header.specs.GitHeaders.{begins_bare};
-ghost use Rattle.patch_header.specs.declared.ways.Ways.{Ways};
+ghost use Rattle.patch_header.specs.declared.read_options.ReadOptions.{ReadOptions};
 
 use crate::bare::{is_bare, tells_binary};
 use crate::content::{has_dot, is_binary};
-use crate::ways::Ways;
+use crate::read_options::ReadOptions;
 use ed_form::{Command, command_at, is_command_line};
 use hunk_core::{Action, Form};
 
@@ -82,7 +82,7 @@ fn opens_script(line: &[u8], only: Option<Form>, dotless: bool) -> bool
 
 /// Whether a bare git header begins with the line from `at` up to `end` that isn't passed over with a
 /// binary change. Where binary lines are passed over it looks ahead over the extended lines once more.
-fn stops_bare(text: &[u8], at: usize, end: usize, ways: Ways) -> bool
+fn stops_bare(text: &[u8], at: usize, end: usize, ways: ReadOptions) -> bool
     requires short { length text.now < 2 ^ 32 }
     requires line { IsLineAt text.now at end }
     ensures { result ≡ stops_bare ways (lines (drop at text.now)) }
@@ -91,7 +91,7 @@ fn stops_bare(text: &[u8], at: usize, end: usize, ways: Ways) -> bool
 }
 
 /// Whether such a header is a part of a binary change that is passed over.
-fn is_passed_over(text: &[u8], at: usize, end: usize, ways: Ways) -> bool
+fn is_passed_over(text: &[u8], at: usize, end: usize, ways: ReadOptions) -> bool
     requires short { length text.now < 2 ^ 32 }
     requires line { IsLineAt text.now at end }
     ensures { result ≡ is_passed_over ways (lines (drop at text.now)) }
@@ -101,7 +101,7 @@ fn is_passed_over(text: &[u8], at: usize, end: usize, ways: Ways) -> bool
 
 /// What stands at the line from `at` up to `end`.
 #[tactic(auto, unfolding(crate::specs::Openings::stop_at))]
-pub fn stop_at(text: &[u8], at: usize, end: usize, ways: Ways, dotless: bool) -> Option<Stop>
+pub fn stop_at(text: &[u8], at: usize, end: usize, ways: ReadOptions, dotless: bool) -> Option<Stop>
     requires short { length text.now < 2 ^ 32 }
     requires line { IsLineAt text.now at end }
     requires told { asks_dot ways.only (slice_range text.now at end) ≡ true → dotless ≡ not (has_dot (lines (drop end text.now))) }
@@ -137,13 +137,13 @@ pub fn one_thing_stands()
     // No bare git header begins with an opening, nor with a binary line.
     ensures bare { (only : Option Form) (f : Form) (rest : List (List ℕ)) → begins_bare rest ≡ true → (begins only f rest ≡ false) × (begins_binary rest ≡ false) }
     // So what stands at a line is told by the test of its form, by that of binary lines, or by that of bare git headers.
-    ensures opening { (ways : Ways) (f : Form) (rest : List (List ℕ)) → stop_at ways rest ≡ Some (Stop.Opening f) ↔ opens ways.only f rest ≡ true }
-    ensures binary { (ways : Ways) (rest : List (List ℕ)) → stop_at ways rest ≡ Some Stop.Binary ↔ stops_binary ways rest ≡ true }
-    ensures git { (ways : Ways) (rest : List (List ℕ)) → stop_at ways rest ≡ Some Stop.Bare ↔ stops_bare ways rest ≡ true }
+    ensures opening { (ways : ReadOptions) (f : Form) (rest : List (List ℕ)) → stop_at ways rest ≡ Some (Stop.Opening f) ↔ opens ways.only f rest ≡ true }
+    ensures binary { (ways : ReadOptions) (rest : List (List ℕ)) → stop_at ways rest ≡ Some Stop.Binary ↔ stops_binary ways rest ≡ true }
+    ensures git { (ways : ReadOptions) (rest : List (List ℕ)) → stop_at ways rest ≡ Some Stop.Bare ↔ stops_bare ways rest ≡ true }
     // Where binary lines stop the search, each bare git header stands, whatever follows it.
-    ensures plain { (ways : Ways) (rest : List (List ℕ)) → ways.skip_binary ≡ false → stops_bare ways rest ≡ (ways.git && begins_bare rest) }
+    ensures plain { (ways : ReadOptions) (rest : List (List ℕ)) → ways.skip_binary ≡ false → stops_bare ways rest ≡ (ways.git && begins_bare rest) }
     // Where they are passed over, none does that a binary line follows directly.
-    ensures skipped { (ways : Ways) (rest : List (List ℕ)) → ways.skip_binary ≡ true → tells_binary rest ≡ true → stops_bare ways rest ≡ false }
+    ensures skipped { (ways : ReadOptions) (rest : List (List ℕ)) → ways.skip_binary ≡ true → tells_binary rest ≡ true → stops_bare ways rest ≡ false }
     // Nothing stands where none of these tests holds.
-    ensures nothing { (ways : Ways) (rest : List (List ℕ)) → (stop_at ways rest ≡ None) ↔ (((f : Form) → opens ways.only f rest ≡ false) × (stops_binary ways rest ≡ false) × (stops_bare ways rest ≡ false)) }
+    ensures nothing { (ways : ReadOptions) (rest : List (List ℕ)) → (stop_at ways rest ≡ None) ↔ (((f : Form) → opens ways.only f rest ≡ false) × (stops_binary ways rest ≡ false) × (stops_bare ways rest ≡ false)) }
 {}

@@ -17,7 +17,7 @@ pub struct Tail {
 
 /// The last line of each kind so far: `--- `, `+++ `, `*** `, `Index:`, `Prereq:` and `diff --git `.
 #[derive(Clone, Copy)]
-pub struct Seen {
+pub struct LastHeaderLines {
     pub minus: Option<Tail>,
     pub plus: Option<Tail>,
     pub stars: Option<Tail>,
@@ -27,10 +27,10 @@ pub struct Seen {
 }
 
 /// No line so far.
-pub fn nothing_seen() -> Seen
+pub fn nothing_seen() -> LastHeaderLines
     ensures { result ≡ seen_in [] }
 {
-    Seen {
+    LastHeaderLines {
         minus: None,
         plus: None,
         stars: None,
@@ -68,13 +68,19 @@ pub fn later(last: Option<Tail>, new: Option<Tail>) -> Option<Tail>
 }
 
 /// The last line of each kind, the line from `at` up to `end` with them.
-pub fn passed(seen: Seen, number: u64, text: &[u8], at: usize, end: usize) -> Seen
+pub fn passed(
+    seen: LastHeaderLines,
+    number: u64,
+    text: &[u8],
+    at: usize,
+    end: usize,
+) -> LastHeaderLines
     requires line { IsLineAt text.now at end }
     requires lies { AllLieIn text.now seen }
     ensures lies { AllLieIn text.now result }
     ensures is { (rs : List Row) → seen ≡ seen_in rs → result ≡ seen_in (rs ++ row number at (slice_range text.now at end) ∷ []) }
 {
-    Seen {
+    LastHeaderLines {
         minus: later(seen.minus, tail_of(b"--- ", number, text, at, end)),
         plus: later(seen.plus, tail_of(b"+++ ", number, text, at, end)),
         stars: later(seen.stars, tail_of(b"*** ", number, text, at, end)),

@@ -8,19 +8,19 @@ ghost use Rattle.patch_header.specs.Steps.{Comes, IsFirstOpening, IsFirstBinary,
 ghost use Rattle.patch_header.specs.Searching.{HasPassed, IsLawful};
 ghost use Rattle.patch_header.specs.Said.{TrailsWithin};
 ghost use Rattle.patch_header.specs.Region.{AllLieIn};
-ghost use Rattle.patch_header.specs.Ways.{with_git};
-ghost use Rattle.header_record.specs.declared.Header.{Header};
-ghost use Rattle.patch_header.specs.declared.ways.Ways.{Ways};
+ghost use Rattle.patch_header.specs.ReadOptions.{with_git};
+ghost use Rattle.read_header_record.specs.declared.Header.{Header};
+ghost use Rattle.patch_header.specs.declared.read_options.ReadOptions.{ReadOptions};
 
 use crate::bare::bare_of;
 use crate::git_trail::{GitTrail, leads_directly, led_by, no_trail, trail_behind};
 use crate::header::{header_of, seen_by};
 use crate::openings::{Stop, lacks_dot, stop_at};
-use crate::region::{Seen, nothing_seen, passed};
-use crate::ways::{Ways, with_git};
-use header_record::Header;
+use crate::read_options::{ReadOptions, with_git};
+use crate::region::{LastHeaderLines, nothing_seen, passed};
 use hunk_core::Form;
 use line_list::next_line;
+use read_header_record::Header;
 
 /// What comes next in a patch text outside hunks.
 #[derive(Clone, Copy, Debug)]
@@ -37,13 +37,13 @@ pub enum HeaderStep {
 pub struct Search {
     pub at: usize,
     pub number: u64,
-    pub seen: Seen,
+    pub seen: LastHeaderLines,
     /// Right where git headers are read.
     pub trail: GitTrail,
 }
 
 /// What stands here, at the line up to `end`, comes next.
-fn step_of(text: &[u8], ways: Ways, stop: Stop, here: Search, end: usize) -> HeaderStep
+fn step_of(text: &[u8], ways: ReadOptions, stop: Stop, here: Search, end: usize) -> HeaderStep
     requires short { length text.now < 2 ^ 32 }
     requires lawful { IsLawful text.now here }
     requires line { IsLineAt text.now here.at end }
@@ -71,7 +71,7 @@ fn advance(text: &[u8], git: bool, here: Search, end: usize) -> Search
     requires line { IsLineAt text.now here.at end }
     ensures at { result.at ≡ end }
     ensures lawful { IsLawful text.now result }
-    ensures passed { (ways : Ways) (at line : ℕ) → ways.git ≡ git → HasPassed ways text.now at line here
+    ensures passed { (ways : ReadOptions) (at line : ℕ) → ways.git ≡ git → HasPassed ways text.now at line here
         → stop_at ways (lines (drop here.at text.now)) ≡ None → HasPassed ways text.now at line result }
 {
     Search {
@@ -88,7 +88,7 @@ fn begin(at: usize, line: u64) -> Search
     ensures number { result.number ≡ line }
     ensures seen { (text : List ℕ) → AllLieIn text result.seen }
     ensures trail { (text : List ℕ) → TrailsWithin text result.trail }
-    ensures passed { (ways : Ways) (text : List ℕ) → HasPassed ways text at line result }
+    ensures passed { (ways : ReadOptions) (text : List ℕ) → HasPassed ways text at line result }
 {
     Search {
         at,
@@ -108,7 +108,7 @@ pub fn header_from(
     text: &[u8],
     at: usize,
     line: u64,
-    ways: Ways,
+    ways: ReadOptions,
     dotless: bool,
 ) -> (HeaderStep, bool)
     requires short { length text.now < 2 ^ 32 }

@@ -7,8 +7,8 @@ ghost use Rattle.patch_header.specs.Values.{first, blanks, unblanked, bare_lengt
 
 use crate::region::Tail;
 use bstr::ByteSlice;
-use header_record::{begins_quoted, quoted_length};
 use line_list::Span;
+use read_header_record::{begins_quoted, quoted_length};
 use stamp::{Stamp, read_stamp};
 
 /// How many blanks stand in front.

@@ -2,7 +2,7 @@
 
 ghost use Rattle.std.specs.Prelude.{◌≡◌, ◌↔◌, ◌⊎◌, ℕ, List, [], ◌∷◌, ◌++◌, ◌==◌, ◌||◌, ◌+◌, length, true, false, not, Some, None, codes};
 ghost use Rattle.std.specs.List.{list_any, AllByRecursion};
-ghost use Rattle.header_record.specs.Quoted.{begins_quoted, quoted_length};
+ghost use Rattle.read_header_record.specs.Quoted.{begins_quoted, quoted_length};
 ghost use Rattle.hunk_core.specs.LineTests.{ends_line};
 ghost use Rattle.patch_header.specs.Content.{content, is_binary, is_dot};
 ghost use Rattle.patch_header.specs.Region.{Row, tail_of, last_tail};
@@ -13,10 +13,10 @@ ghost use Rattle.patch_header.specs.GitHeaders.{starts, is_git_line, is_index_li
 ghost use Rattle.patch_header.specs.GitRows.{led_rows, are_alike, has_halves};
 ghost use Rattle.patch_header.specs.declared.region.Tail.{Tail};
 
-use header_record::Action;
+use read_header_record::Action;
 
 /// Lines that are told by all of them.
-pub fn whole_lines_in_words()
+pub fn whole_lines_laws()
     // The content of a line is what stands in front of its line feed, or all of it.
     ensures feed { (front : List ℕ) → content (front ++ 10 ∷ []) ≡ front }
     ensures no_feed { (line : List ℕ) → ends_line line ≡ false → content line ≡ line }
@@ -26,7 +26,7 @@ pub fn whole_lines_in_words()
 {}
 
 /// The last line of a kind, and what it says.
-pub fn header_lines_in_words()
+pub fn header_lines_laws()
     // The last line that begins with the mark counts, and other lines don't.
     ensures nothing { (mark : List ℕ) → last_tail mark [] ≡ None }
     ensures last { (mark rest : List ℕ) (rs : List Row) (r : Row) → content r.line ≡ mark ++ rest
@@ -53,7 +53,7 @@ pub fn header_lines_in_words()
 {}
 
 /// What a git header says, and which lines it has.
-pub fn git_headers_in_words()
+pub fn git_headers_laws()
     // A line begins so where these bytes stand in front.
     ensures starts { (mark line : List ℕ) → starts mark line ≡ true ↔ ((rest : List ℕ) × (content line ≡ mark ++ rest)) }
     // The extended lines go up to the first line that is none.

@@ -15,48 +15,48 @@ use Rattle.hunk_core.specs.declared.Side.{Side}
 use Rattle.hunk_core.specs.declared.Verdict.{Verdict}
 use Rattle.hunk_apply.specs.declared.Session.{Session}
 use Rattle.replace_file.specs.declared.temp.Temp.{Temp}
-use Rattle.patch_task.specs.declared.fault.RunFault.{RunFault}
-use Rattle.patch_task.specs.declared.fault.RunFault.TheVariants.{Tree}
-use Rattle.patch_task.specs.LineEnds.{first_end}
-use Rattle.patch_task.specs.Outputs.{IsSession}
-use Rattle.patch_start.specs.Trying.{IsBegun}
-use Rattle.file_patch.specs.declared.derived.Target.{Target}
+use Rattle.apply_task.specs.declared.fault.RunFault.{RunFault}
+use Rattle.apply_task.specs.declared.fault.RunFault.TheVariants.{Tree}
+use Rattle.apply_task.specs.LineEnds.{first_end}
+use Rattle.apply_task.specs.Outputs.{IsSession}
+use Rattle.apply_start.specs.Trying.{IsBegun}
+use Rattle.read_file_patch.specs.declared.derived.Target.{Target}
 use Rattle.patch_set.specs.declared.set.Row.{Row}
 use Rattle.patch_run.specs.declared.one_patch.Done.{Done}
-use Rattle.patch_task.specs.declared.placed.Made.{Made}
-use Rattle.patch_task.specs.TaskView.{with_past}
-use Rattle.patch_run.specs.OnePatch.{Mark, PlainTurn, Tried, bytes_of, output_on, tried, some_failed, is_kept, fails_first, finished, effects_of, tried_said, wrote}
+use Rattle.apply_task.specs.declared.placed.Made.{Made}
+use Rattle.apply_task.specs.TaskView.{with_past}
+use Rattle.patch_run.specs.OnePatch.{PastFilePatch, PlainContext, Tried, bytes_of, output_on, tried, some_failed, is_kept, fails_first, finished, effects_of, tried_said, wrote}
 use Rattle.patch_run.specs.Run.{cleared}
-use Rattle.patch_task.specs.Making.{IsGone, IsPart, Makes}
-use Rattle.patch_task.specs.Named.{IsNamed}
+use Rattle.apply_task.specs.Making.{IsGone, IsPart, Makes}
+use Rattle.apply_task.specs.Named.{IsNamed}
 use Rattle.patch_run.specs.Doing.{IsPartOf, IsWholeOf, IsDone, IsOutcome, IsMadeWhole, IsOrdered}
-use Rattle.patch_outcome.proofs.Moving.{works_made}
-use Rattle.patch_task.proofs.EffectLists.{after_all-at, made_both, leaves_after, tells_after}
+use Rattle.apply_outcome.proofs.Moving.{works_made}
+use Rattle.apply_task.proofs.EffectLists.{after_all-at, made_both, leaves_after, tells_after}
 
 -- the marks of those before it don't change what is written of the hunks
-output_behind : (o : Option (List ℕ)) (past : List Mark) (t : PlainTurn) (side : Side) (ls : List (List ℕ)) → output_on o t side ls ≡ output_on o (with_past past t) side ls
+output_behind : (o : Option (List ℕ)) (past : List PastFilePatch) (t : PlainContext) (side : Side) (ls : List (List ℕ)) → output_on o t side ls ≡ output_on o (with_past past t) side ls
 output_behind None past t side ls = refl
 output_behind (Some define) past t side ls = refl
 
-pub held_behind : (past : List Mark) (t : PlainTurn) (side : Side) (ls : List (List ℕ)) (u : TreeView) (temp : List ℕ) → Holds u temp (tried t side ls).output → Holds u temp (tried (with_past past t) side ls).output
+pub held_behind : (past : List PastFilePatch) (t : PlainContext) (side : Side) (ls : List (List ℕ)) (u : TreeView) (temp : List ℕ) → Holds u temp (tried t side ls).output → Holds u temp (tried (with_past past t) side ls).output
 held_behind past t side ls u temp = subst (λ (b : List ℕ). Holds u temp b) (output_behind t.options.define past t side ls)
 
-effects-same : (t : PlainTurn) (f g : Files) (s w : Target) (x : Tried) → get g s.name ≡ get f s.name → get g w.name ≡ get f w.name → effects_of t g s w x ≡ effects_of t f s w x
+effects-same : (t : PlainContext) (f g : Files) (s w : Target) (x : Tried) → get g s.name ≡ get f s.name → get g w.name ≡ get f w.name → effects_of t g s w x ≡ effects_of t f s w x
 unfolding effects_of
 effects-same t f g s w x source same = rw (source, same) refl
 
-wrote-same : (t : PlainTurn) (f g : Files) (w : Target) (x : Tried) → get g w.name ≡ get f w.name → wrote t g w x ≡ wrote t f w x
+wrote-same : (t : PlainContext) (f g : Files) (w : Target) (x : Tried) → get g w.name ≡ get f w.name → wrote t g w x ≡ wrote t f w x
 unfolding wrote
 wrote-same t f g w x same = rw same
 
-pub effects-dry : (t : PlainTurn) (f : Files) (s w : Target) (x : Tried) → t.options.dry_run ≡ true → effects_of t f s w x ≡ []
+pub effects-dry : (t : PlainContext) (f : Files) (s w : Target) (x : Tried) → t.options.dry_run ≡ true → effects_of t f s w x ≡ []
 unfolding effects_of
 effects-dry t f s w x dry = rw dry
 
 abbrev cleared_in : Bool → Target → Option (List ℕ)
 cleared_in dry w = if dry then None else Some w.name
 
-module _ (t : PlainTurn) (f g : Files) (s w : Target) (x : Tried) (source : IsNamed s) (named : IsNamed w) {u v : TreeView} (works : WorksOn u v w.temp) (told : u.told ≡ Some f) (now : v.told ≡ Some g) where
+module _ (t : PlainContext) (f g : Files) (s w : Target) (x : Tried) (source : IsNamed s) (named : IsNamed w) {u v : TreeView} (works : WorksOn u v w.temp) (told : u.told ≡ Some f) (now : v.told ≡ Some g) where
   name_same : get g w.name ≡ get f w.name
   name_same = works.others f g told now w.name (apart w.name w.temp named.lasting.own named.temps.own)
 
@@ -136,7 +136,7 @@ pub is_dry : (dry : Bool) (name : List ℕ) → IsBegun dry None name → dry �
 is_dry true name is = refl
 is_dry false name is = absurd is
 
-wrote-dry : (t : PlainTurn) (f : Files) (w : Target) (x : Tried) → t.options.dry_run ≡ true → wrote t f w x ≡ false
+wrote-dry : (t : PlainContext) (f : Files) (w : Target) (x : Tried) → t.options.dry_run ≡ true → wrote t f w x ≡ false
 unfolding wrote
 wrote-dry t f w x dry = rw dry
 
@@ -148,7 +148,7 @@ part_unmade {u = u} es text quiet said = record {
   said = said;
 }
 
-module _ (t : PlainTurn) (s w : Target) (session : Session) (side : Side) (vs : List Verdict) (end : Option Bool) (u z : TreeView) (c d : SinkView) where
+module _ (t : PlainContext) (s w : Target) (session : Session) (side : Side) (vs : List Verdict) (end : Option Bool) (u z : TreeView) (c d : SinkView) where
   -- what was said of an outcome
   abbrev pub Says : (List ℕ → Type 0) → Type 0
   Says P = (x : Tried) → x.side ≡ side → x.verdicts ≡ vs → IsSession session x.verdicts x.text → x.end ≡ end → P (tried_said t w x)
@@ -231,7 +231,7 @@ part_worked {u = u} {v = v} temp c es text is works =
       said = part_longer c c [] text (received_part c c [] (received_none c));
     }
 
-module _ (t : PlainTurn) (f : Files) (s w : Target) (side : Side) (ls : List (List ℕ)) (session : Session) (vs : List Verdict) (end : Option Bool) (source : IsNamed s) (named : IsNamed w) {u v : TreeView} (works : WorksOn u v w.temp) (told : u.told ≡ Some f)
+module _ (t : PlainContext) (f : Files) (s w : Target) (side : Side) (ls : List (List ℕ)) (session : Session) (vs : List Verdict) (end : Option Bool) (source : IsNamed s) (named : IsNamed w) {u v : TreeView} (works : WorksOn u v w.temp) (told : u.told ≡ Some f)
     (verdicts : vs ≡ (tried t side ls).verdicts) (counts : IsSession session vs (tried t side ls).text) (ends : end ≡ first_end ls) (holds : t.options.dry_run ≡ false → Holds v w.temp (tried t side ls).output) where
   tried_outcome : IsOutcome t.options.dry_run v session w.temp side vs end (tried t side ls)
   tried_outcome = record { side = refl; verdicts = sym verdicts; counts = subst (λ (l : List Verdict). IsSession session l (tried t side ls).text) verdicts counts; end = sym ends; holds = holds }

@@ -12,13 +12,13 @@ use Rattle.hunk_core.specs.declared.Verdict.{Verdict}
 use Rattle.hunk_core.specs.declared.Verdict.TheVariants.{Nowhere}
 use Rattle.line_store.specs.Store.{Seen, Keeps}
 use Rattle.replace_file.specs.declared.temp.Temp.{Temp}
-use Rattle.patch_task.specs.declared.fault.RunFault.{RunFault}
-use Rattle.patch_task.specs.declared.fault.RunFault.TheVariants.{Tree, Write, Scratch, LongLine, FileTooLong, Disagree, Memory}
-use Rattle.patch_task.specs.Making.{IsGone, IsTidy, TidyAfter}
-use Rattle.patch_task.proofs.Tidy.{tidy_both, untouched_tidy, attempt_tidy}
-use Rattle.patch_start.specs.Trying.{IsBegun, HasTryCause}
+use Rattle.apply_task.specs.declared.fault.RunFault.{RunFault}
+use Rattle.apply_task.specs.declared.fault.RunFault.TheVariants.{Tree, Write, Scratch, LongLine, FileTooLong, Disagree, Memory}
+use Rattle.apply_task.specs.Making.{IsGone, IsTidy, TidyAfter}
+use Rattle.apply_task.proofs.Tidy.{tidy_both, untouched_tidy, attempt_tidy}
+use Rattle.apply_start.specs.Trying.{IsBegun, HasTryCause}
 use Rattle.patch_run.specs.declared.one_patch.Done.{Done}
-use Rattle.patch_run.specs.OnePatch.{PlainTurn}
+use Rattle.patch_run.specs.OnePatch.{PlainContext}
 use Rattle.patch_run.specs.Doing.{Stays, QuietAfter, IsDeviceFault, HasEndCause, IsUntold, IsRefused}
 use Rattle.patch_run.proofs.Applying.{begun_name}
 use Rattle.patch_run.proofs.EndCause.{end_failed, end_device, end_run, device_quiet, kept_plan}
@@ -107,7 +107,7 @@ tidy_barred u v w dry temp (Ok x) same works tidy gone = attempt_tidy u v w dry 
 tidy_barred u v w dry temp (Err e) same works tidy gone = tt
 
 -- the verdicts of a file patch that was refused
-pub refused_placed : {Lines : Type 0} (P : Done → Lines → Type 0) (Told : Lines → Type 0) (u : TreeView) (t : PlainTurn) (r : Result Done RunFault) (vs new : List Verdict) (n : ℕ) → length vs ≡ n → IsUntold u → IfOk r (IsRefused t) → OnOk r (new ≡ replicate (length vs) Nowhere)
+pub refused_placed : {Lines : Type 0} (P : Done → Lines → Type 0) (Told : Lines → Type 0) (u : TreeView) (t : PlainContext) (r : Result Done RunFault) (vs new : List Verdict) (n : ℕ) → length vs ≡ n → IsUntold u → IfOk r (IsRefused t) → OnOk r (new ≡ replicate (length vs) Nowhere)
     → IfOk r (λ done. (lines : Lines) → Told lines → P done lines ⊎ ((IsUntold u × IsRefused t done) × (new ≡ replicate n Nowhere)))
 refused_placed P Told u t (Ok done) vs new n long untold refused none = λ lines told. inr ((untold, refused), none ∙ ap (λ k. replicate k Nowhere) long)
 refused_placed P Told u t (Err e) vs new n long untold refused none = tt

@@ -7,18 +7,18 @@ use Rattle.outside.specs.Quiet.{Effect, after_all}
 use Rattle.hunk_core.specs.declared.Verdict.{Verdict}
 use Rattle.hunk_core.specs.declared.Verdict.TheVariants.{Ignored}
 use Rattle.patch_options.specs.PlainJob.{PlainOptions}
-use Rattle.file_patch.specs.declared.derived.Target.{Target}
-use Rattle.patch_run.specs.OnePatch.{Item, PlainTurn, Start, skips, refuses, tries, Ending, ended, stopped, total, bytes_of, lines_in, target_at, written, tried, start, ending_of, ending}
+use Rattle.read_file_patch.specs.declared.derived.Target.{Target}
+use Rattle.patch_run.specs.OnePatch.{Item, PlainContext, Start, skips, refuses, tries, Ending, ended, stopped, total, bytes_of, lines_in, target_at, written, tried, start, ending_of, ending}
 use Rattle.patch_run.specs.Run.{Run, begun, turn_of, with_ending, if_going, with_item, run_on, run_of, cleared}
 use Rattle.patch_run.specs.Laws.{IsSkip, IsIgnored}
 use Rattle.patch_run.proofs.Applying.{effects-dry}
 
-skip_ignored : (t : PlainTurn) (f : Files) (s : Start) → IsSkip s → IsIgnored (ending_of t f s)
+skip_ignored : (t : PlainContext) (f : Files) (s : Start) → IsSkip s → IsIgnored (ending_of t f s)
 skip_ignored t f (skips said row taken) is = (refl, All-replicate (λ (v : Verdict). v ≡ Ignored) (total t) Ignored refl)
 skip_ignored t f (refuses said fault) is = absurd is
 skip_ignored t f (tries said place side) is = absurd is
 
-pub skipped_ignored : (t : PlainTurn) (f : Files) → IsSkip (start t f) → IsIgnored (ending t f)
+pub skipped_ignored : (t : PlainContext) (f : Files) → IsSkip (start t f) → IsIgnored (ending t f)
 unfolding ending
 skipped_ignored t f is = skip_ignored t f (start t f) is
 
@@ -28,14 +28,14 @@ abbrev IsIdle : Ending → Type 0
 IsIdle (ended s) = (s.effects ≡ []) × (s.cleared ≡ None)
 IsIdle (stopped said fault) = Unit {0}
 
-start_idle : (t : PlainTurn) (f : Files) (s : Start) → t.options.dry_run ≡ true → IsIdle (ending_of t f s)
+start_idle : (t : PlainContext) (f : Files) (s : Start) → t.options.dry_run ≡ true → IsIdle (ending_of t f s)
 start_idle t f (skips said row taken) dry = (refl, refl)
 start_idle t f (refuses said fault) dry = tt
 start_idle t f (tries said place side) dry =
     let w = written t place in
     (effects-dry t f (target_at t.item.targets place) w (tried t side (lines_in (bytes_of t f place))) dry, ap (λ b. if b then None else Some w.name) dry)
 
-patch_idle : (t : PlainTurn) (f : Files) → t.options.dry_run ≡ true → IsIdle (ending t f)
+patch_idle : (t : PlainContext) (f : Files) → t.options.dry_run ≡ true → IsIdle (ending t f)
 unfolding ending
 patch_idle t f dry = start_idle t f (start t f) dry
 
@@ -43,7 +43,7 @@ patch_idle t f dry = start_idle t f (start t f) dry
 abbrev Stands : Run → Run → Type 0
 Stands r s = (s.effects ≡ r.effects) × (s.files ≡ r.files)
 
-ending_stands : (t : PlainTurn) (r : Run) (e : Ending) → IsIdle e → Stands r (with_ending t r e)
+ending_stands : (t : PlainContext) (r : Run) (e : Ending) → IsIdle e → Stands r (with_ending t r e)
 ending_stands t r (ended s) idle = (
   ap (λ (l : List Effect). r.effects ++ l) idle.0 ∙ append-nil r.effects,
   ap (λ c. cleared c (after_all s.effects r.files)) idle.1 ∙ ap (λ (l : List Effect). after_all l r.files) idle.0,

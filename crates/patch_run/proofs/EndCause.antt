@@ -8,11 +8,11 @@ use Rattle.outside.specs.SinkView.{SinkView, SinkPasses, sink_passes_none}
 use Rattle.outside.proofs.Views.{rises_then}
 use Rattle.line_store.specs.Store.{Seen, Keeps}
 use Rattle.line_store.specs.Taking.{KeepsPlan}
-use Rattle.patch_task.specs.declared.fault.RunFault.{RunFault}
-use Rattle.patch_task.specs.declared.fault.RunFault.TheVariants.{Tree, Write, Scratch, LongLine, FileTooLong, Disagree, Memory}
-use Rattle.patch_task.specs.Making.{UnlessFailed}
-use Rattle.patch_start.specs.Devices.{Told, HasRunCause}
-use Rattle.patch_start.specs.Trying.{HasTryCause}
+use Rattle.apply_task.specs.declared.fault.RunFault.{RunFault}
+use Rattle.apply_task.specs.declared.fault.RunFault.TheVariants.{Tree, Write, Scratch, LongLine, FileTooLong, Disagree, Memory}
+use Rattle.apply_task.specs.Making.{UnlessFailed}
+use Rattle.apply_start.specs.Devices.{Told, HasRunCause}
+use Rattle.apply_start.specs.Trying.{HasTryCause}
 use Rattle.patch_run.specs.Doing.{Stays, QuietAfter, IsDeviceFault, HasEndCause}
 
 -- the tree or the sink has failed

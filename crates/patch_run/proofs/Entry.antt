@@ -6,8 +6,8 @@ use Rattle.outside.specs.Files.{Files, SameLasting, lasting-same}
 use Rattle.outside.specs.TreeView.{TreeView}
 use Rattle.outside.specs.SinkView.{SinkView}
 use Rattle.outside.specs.ScratchView.{ScratchView}
-use Rattle.run_answers.specs.declared.why.Why.{Why}
-use Rattle.run_answers.specs.Moments.{FirstPart, IsAsAtEntry}
+use Rattle.cli_run_answers.specs.declared.why.Why.{Why}
+use Rattle.cli_run_answers.specs.Moments.{FirstPart, IsAsAtEntry}
 use Rattle.patch_run.specs.Outcome.{Outcome, refused}
 use Rattle.patch_run.specs.Answer.{IsAnswer}
 

@@ -23,11 +23,11 @@ use Rattle.plan_a.specs.Auto.{page_size, goes_to_pages}
 use Rattle.plan_b.specs.Pages.{pages}
 use Rattle.packed_pages.specs.Packs.{packs}
 use Rattle.patch_run.specs.Applied.{Receipt}
-use Rattle.patch_start.specs.Devices.{Told, HasRunCause}
+use Rattle.apply_start.specs.Devices.{Told, HasRunCause}
 use Rattle.patch_run.specs.Doing.{Runs, IsReceipt, IsPartOf, IsCutAt, scratch_behind}
 use Rattle.patch_run.specs.Run.{Run, items_of, set_run}
-use Rattle.patch_task.specs.declared.fault.RunFault.{RunFault}
-use Rattle.patch_task.specs.declared.fault.RunFault.TheVariants.{Tree, Write, Scratch, LongLine, FileTooLong, Disagree, Memory}
+use Rattle.apply_task.specs.declared.fault.RunFault.{RunFault}
+use Rattle.apply_task.specs.declared.fault.RunFault.TheVariants.{Tree, Write, Scratch, LongLine, FileTooLong, Disagree, Memory}
 use Rattle.patch_run.specs.Scratches.{has_scratch, is_paged, goes_there, pages_of, pages_or, scratch_behind_all}
 use Rattle.patch_run.specs.Finishes.{IsToldTo, HasPlanCause, IsNotBegun, LeavesVerdicts, LeavesRows, Finishes}
 

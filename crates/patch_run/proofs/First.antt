@@ -5,13 +5,13 @@ use Rattle.std.proofs.Math.Dec.{eqb-suc-zero}
 use Rattle.std.specs.List.{zip}
 use Rattle.hunk_core.specs.declared.Verdict.{Verdict}
 use Rattle.patch_options.specs.PlainJob.{PlainOptions, plain_options}
-use Rattle.file_patch.specs.declared.FilePatch.{FilePatch}
+use Rattle.read_file_patch.specs.declared.FilePatch.{FilePatch}
 use Rattle.patch_set.specs.declared.set.Row.{Row}
 use Rattle.patch_set.specs.SetView.{SetView}
 use Rattle.patch_run.specs.OnePatch.{is_first}
-use Rattle.patch_outcome.specs.Ready.{mark_in, marks}
-use Rattle.patch_outcome.specs.TurnView.{plain_turn, IsTurn}
-use Rattle.patch_outcome.specs.declared.turn.Turn.{Turn}
+use Rattle.apply_outcome.specs.Ready.{mark_in, marks}
+use Rattle.apply_outcome.specs.ContextView.{plain_context, IsContext}
+use Rattle.apply_outcome.specs.declared.context.FilePatchContext.{FilePatchContext}
 
 some-mark : (o : PlainOptions) (v : SetView) (vs : List Verdict) (k : ℕ) (ps : List FilePatch) (rs : List Row) → suc k ≤ length ps → length rs ≡ length ps → is_first (map (mark_in o v vs) (zip (take (suc k) ps) rs)) ≡ false
 some-mark o v vs k [] rs few long = absurd (omega (arith, few))
@@ -23,5 +23,5 @@ unfolding marks
 first-is o v zero vs few long = refl
 first-is o v (suc k) vs few long = eqb-suc-zero k ∙ sym (some-mark o v vs k v.patches v.rows few long)
 
-pub is-first : (t : Turn) → IsTurn t → is_first (plain_turn t).past ≡ t.task.is_first
+pub is-first : (t : FilePatchContext) → IsContext t → is_first (plain_context t).past ≡ t.task.is_first
 is-first t is = sym (is.first ∙ first-is (plain_options t.task.options.now) t.task.set.now t.count t.verdicts.now is.within is.task.ready.rows)

@@ -11,15 +11,15 @@ use Rattle.hunk_core.specs.declared.Verdict.{Verdict}
 use Rattle.line_store.specs.declared.fault.OpenFault.{OpenFault}
 use Rattle.line_store.specs.declared.fault.OpenFault.TheVariants as open_fault
 use Rattle.patch_options.specs.PlainJob.{PlainOptions}
-use Rattle.file_patch.specs.declared.derived.Target.{Target}
-use Rattle.patch_task.specs.declared.fault.RunFault.{RunFault}
-use Rattle.patch_task.specs.declared.fault.RunFault.TheVariants.{Tree, Write, Scratch, LongLine, FileTooLong, Disagree, Memory}
+use Rattle.read_file_patch.specs.declared.derived.Target.{Target}
+use Rattle.apply_task.specs.declared.fault.RunFault.{RunFault}
+use Rattle.apply_task.specs.declared.fault.RunFault.TheVariants.{Tree, Write, Scratch, LongLine, FileTooLong, Disagree, Memory}
 use Rattle.patch_run.specs.declared.one_patch.Done.{Done}
-use Rattle.patch_run.specs.OnePatch.{Item, PlainTurn, Story, Ending, ended, stopped, ending}
+use Rattle.patch_run.specs.OnePatch.{Item, PlainContext, Story, Ending, ended, stopped, ending}
 use Rattle.patch_run.specs.Run.{Run, begun, turn_of, with_story, with_stop, with_ending, if_going, with_item, run_on, run_of}
-use Rattle.patch_task.specs.Making.{IsPart, UnlessFailed}
+use Rattle.apply_task.specs.Making.{IsPart, UnlessFailed}
 use Rattle.patch_run.specs.Doing.{IsPartOf, IsWholeOf, IsDone, IsStopped, IsBroken, IsFar, IsHalted, IsCutOff, IsOrdered, IsAmid, IsCutIn, IsCutAt, effects_in, said_of}
-use Rattle.patch_task.proofs.EffectLists.{made_both, leaves_after, tells_after}
+use Rattle.apply_task.proofs.EffectLists.{made_both, leaves_after, tells_after}
 
 run-both : (o : PlainOptions) (output : Option Target) (xs ys : List Item) (r : Run) → run_on o output (xs ++ ys) r ≡ run_on o output ys (run_on o output xs r)
 unfolding run_on
@@ -48,7 +48,7 @@ more_both {r = r} m n = record {
   told = n.told ∙ ap (λ (l : List ℕ). l ++ n.said) m.told ∙ append_assoc r.said m.said n.said;
 }
 
-more_ending : (t : PlainTurn) (r : Run) (e : Ending) → More r (with_ending t r e)
+more_ending : (t : PlainContext) (r : Run) (e : Ending) → More r (with_ending t r e)
 more_ending t r (ended s) = record { effects = s.effects; said = s.said; made = refl; told = refl }
 more_ending t r (stopped said fault) = record { effects = []; said = said; made = sym (append-nil r.effects); told = refl }
 
@@ -78,7 +78,7 @@ part_longer_run {u = u} {w = w} {a = a} {b = b} r s m part = record {
 }
 
 -- one file patch more
-pub far_on : {u v w : TreeView} {a b c : SinkView} {done : Done} {verdicts : List Verdict} (t : PlainTurn) (r : Run) (s : Story) → IsFar u v a b r → IsDone v w b c done verdicts r.files s → IsFar u w a c (with_story t r s)
+pub far_on : {u v w : TreeView} {a b c : SinkView} {done : Done} {verdicts : List Verdict} (t : PlainContext) (r : Run) (s : Story) → IsFar u v a b r → IsDone v w b c done verdicts r.files s → IsFar u w a c (with_story t r s)
 far_on {a = a} {b = b} {c = c} t r s far done = record {
   made = made_both far.made done.whole.made;
   said = received_both a b c r.said s.said far.said done.whole.said;
@@ -86,7 +86,7 @@ far_on {a = a} {b = b} {c = c} t r s far done = record {
 }
 
 -- a part of it
-part_on : {u v w : TreeView} {a b c : SinkView} (t : PlainTurn) (r : Run) (e : Ending) → IsFar u v a b r → Passes v w → IsPartOf v w b c (effects_in e) (said_of e) → IsPartOf u w a c (with_ending t r e).effects (with_ending t r e).said
+part_on : {u v w : TreeView} {a b c : SinkView} (t : PlainContext) (r : Run) (e : Ending) → IsFar u v a b r → Passes v w → IsPartOf v w b c (effects_in e) (said_of e) → IsPartOf u w a c (with_ending t r e).effects (with_ending t r e).said
 part_on {a = a} {b = b} {c = c} t r (ended s) far passes part = record {
   tells = tells_after far.made passes s.effects part.tells;
   leaves = leaves_after far.made passes s.effects part.leaves;
@@ -140,12 +140,12 @@ cut_in {a = a} {b = b} {c = c} fault r e far passes broken order kept =
 next_item : (o : PlainOptions) (output : Option Target) (r : Run) (i : Item) → r.stop ≡ None → with_item o output r i ≡ with_ending (turn_of o output r i) r (ending (turn_of o output r i) r.files)
 next_item o output r i going = ap (λ x. if_going x r (with_ending (turn_of o output r i) r (ending (turn_of o output r i) r.files))) going
 
-module _ (o : PlainOptions) (output : Option Target) (xs : List Item) (i : Item) (t : PlainTurn) (f : Files) (going : (run_of o output xs f).stop ≡ None) (same : turn_of o output (run_of o output xs f) i ≡ t) where
+module _ (o : PlainOptions) (output : Option Target) (xs : List Item) (i : Item) (t : PlainContext) (f : Files) (going : (run_of o output xs f).stop ≡ None) (same : turn_of o output (run_of o output xs f) i ≡ t) where
   pub run-next : run_of o output (xs ++ i ∷ []) f ≡ with_ending t (run_of o output xs f) (ending t (run_of o output xs f).files)
   run-next =
       run-push o output xs i (begun f)
       ∙ next_item o output (run_of o output xs f) i going
-      ∙ ap (λ (x : PlainTurn). with_ending x (run_of o output xs f) (ending x (run_of o output xs f).files)) same
+      ∙ ap (λ (x : PlainContext). with_ending x (run_of o output xs f) (ending x (run_of o output xs f).files)) same
 
   pub whole-next : (ys : List Item) → run_of o output (xs ++ i ∷ ys) f ≡ run_on o output ys (with_ending t (run_of o output xs f) (ending t (run_of o output xs f).files))
   whole-next ys =
@@ -180,7 +180,7 @@ module _ (o : PlainOptions) (output : Option Target) (xs : List Item) (i : Item)
           behind = ys;
           all = refl;
           going = going;
-          cut = subst (λ (x : PlainTurn). IsCutIn e w a c r (ending x r.files)) (sym same) (cut_in e r (ending t r.files) far passes broken order kept);
+          cut = subst (λ (x : PlainContext). IsCutIn e w a c r (ending x r.files)) (sym same) (cut_in e r (ending t r.files) far passes broken order kept);
         }
 
     -- a fault within a file patch

@@ -12,26 +12,26 @@ use Rattle.outside.proofs.Views.{rises_then}
 use Rattle.outside.proofs.Effects.{made_none}
 use Rattle.outside.proofs.Writing.{received_none}
 use Rattle.hunk_core.specs.declared.Verdict.{Verdict}
-use Rattle.file_patch.specs.declared.FilePatch.{FilePatch}
+use Rattle.read_file_patch.specs.declared.FilePatch.{FilePatch}
 use Rattle.line_store.specs.Store.{Seen}
 use Rattle.line_store.specs.Taking.{KeepsPlan}
 use Rattle.patch_options.specs.PlainJob.{PlainOptions}
-use Rattle.file_patch.specs.declared.derived.Target.{Target}
+use Rattle.read_file_patch.specs.declared.derived.Target.{Target}
 use Rattle.patch_set.specs.declared.set.Row.{Row}
 use Rattle.patch_set.specs.declared.skipped.BinaryChange.{BinaryChange}
 use Rattle.patch_set.specs.SetView.{SetView, hunks_in, with_row}
-use Rattle.patch_task.specs.declared.fault.RunFault.{RunFault}
-use Rattle.patch_task.specs.declared.fault.RunFault.TheVariants.{Tree, Write, Scratch, LongLine, FileTooLong, Disagree, Memory}
+use Rattle.apply_task.specs.declared.fault.RunFault.{RunFault}
+use Rattle.apply_task.specs.declared.fault.RunFault.TheVariants.{Tree, Write, Scratch, LongLine, FileTooLong, Disagree, Memory}
 use Rattle.patch_run.specs.declared.one_patch.Done.{Done}
-use Rattle.patch_start.specs.Devices.{Told, HasRunCause, scratch_with}
-use Rattle.patch_run.specs.OnePatch.{Item, Mark, PlainTurn, Story, Ending, ending, mark_of}
+use Rattle.apply_start.specs.Devices.{Told, HasRunCause, scratch_with}
+use Rattle.patch_run.specs.OnePatch.{Item, PastFilePatch, PlainContext, Story, Ending, ending, mark_of}
 use Rattle.patch_run.specs.Run.{Run, run_on, turn_of, with_story, with_ending, run_of, item_of, moved_in, items_of, set_run}
-use Rattle.patch_outcome.specs.Ready.{AreNumbered, marks, rows_in, turn_at}
-use Rattle.patch_task.specs.Making.{IsTidy, UnlessFailed}
+use Rattle.apply_outcome.specs.Ready.{AreNumbered, marks, rows_in, turn_at}
+use Rattle.apply_task.specs.Making.{IsTidy, UnlessFailed}
 use Rattle.patch_run.specs.Doing.{Stays, IsDone, IsEnded, IsBroken, IsFar, IsCutOff, IsOrdered, IsCutAt, said_of, scratch_behind, StaysSet}
-use Rattle.patch_task.proofs.Tidy.{tidy_none, tidy_both}
+use Rattle.apply_task.proofs.Tidy.{tidy_none, tidy_both}
 use Rattle.patch_run.proofs.Folding.{run-next, cut_off, cut_here, far_on}
-use Rattle.patch_outcome.proofs.Marks.{verdicts-next, marks-next}
+use Rattle.apply_outcome.proofs.Marks.{verdicts-next, marks-next}
 
 -- what passes over the devices while a run goes on
 pub record Goes (u w : TreeView) (a b : Seen) (c d : SinkView) : Type 0 where
@@ -127,7 +127,7 @@ pub record IsNext (v : SetView) (k : ℕ) (p : FilePatch) (vs ws : List Verdict)
 module _ (o : PlainOptions) (v : SetView) (k : ℕ) (p : FilePatch) (vs ws : List Verdict) (next : IsNext v k p vs ws) where
   same-turn : (r : Run) → r.past ≡ marks o v k vs → turn_of o v.output r (item_of v.text v.skipped (moved_in v.patches) p) ≡ turn_at o v k vs p
   same-turn r past =
-      let turn : List Mark → PlainTurn = λ l. record { options = o; output = v.output; item = item_of v.text v.skipped (moved_in v.patches) p; past = l } in
+      let turn : List PastFilePatch → PlainContext = λ l. record { options = o; output = v.output; item = item_of v.text v.skipped (moved_in v.patches) p; past = l } in
       ap turn past
 
   at_story : {u x w : TreeView} {a b b' : Seen} {c d e : SinkView} {scratch_after : ℕ → List ℕ → Option (List ℕ) → Option (List ℕ)} {is_bad : Bool} {count : ℕ} (r : Run) (done : Done) (s : Story) → b.size ≡ a.size → IsAt u x a b c d scratch_after o v k vs is_bad count r
@@ -139,7 +139,7 @@ module _ (o : PlainOptions) (v : SetView) (k : ℕ) (p : FilePatch) (vs ws : Lis
         far = far_on t r s at.far does;
         going = refl;
         past =
-            ap (λ (l : List Mark). l ++ mark_of t s.row s.verdicts ∷ []) at.past
+            ap (λ (l : List PastFilePatch). l ++ mark_of t s.row s.verdicts ∷ []) at.past
             ∙ ap (λ (x : Row). marks o v k vs ++ mark_of t x s.verdicts ∷ []) (sym does.told.row)
             ∙ ap (λ (l : List Verdict). marks o v k vs ++ mark_of t done.row l ∷ []) (sym does.told.verdicts)
             ∙ sym (marks-next o v k p done.row vs ws next.numbered next.within next.rows next.at next.before);

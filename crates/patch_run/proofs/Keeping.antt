@@ -7,14 +7,14 @@ use Rattle.line_list.specs.Join.{join}
 use Rattle.line_list.proofs.JoinLemmas.{join-lines}
 use Rattle.hunk_core.specs.declared.Side.{Side}
 use Rattle.hunk_place.specs.Verdicts.{spots}
-use Rattle.file_patch.specs.PlainPatch.{PlainChange, hunks, script, hunk_count}
+use Rattle.read_file_patch.specs.PlainPatch.{PlainChange, hunks, script, hunk_count}
 use Rattle.hunk_apply.specs.Applied.{applied}
 use Rattle.hunk_apply.specs.Change.{change_output}
 use Rattle.hunk_apply.specs.Splice.{spliced, spliced_from, all_edits}
 use Rattle.hunk_apply.proofs.SpliceLemmas.{line-kept, nothing-left, spliced-whole}
-use Rattle.patch_task.specs.Asking.{is_bare}
-use Rattle.patch_task.specs.Outputs.{admitted, is_barred}
-use Rattle.patch_run.specs.OnePatch.{PlainTurn, text_of}
+use Rattle.apply_task.specs.Asking.{is_bare}
+use Rattle.apply_task.specs.Outputs.{admitted, is_barred}
+use Rattle.patch_run.specs.OnePatch.{PlainContext, text_of}
 
 -- without an edit the lines from one on are the file's
 lines_stay : (ls : List (List ℕ)) (n q : ℕ) → q + n ≡ length ls → spliced_from ls [] (q + 1) ≡ drop q ls
@@ -38,5 +38,5 @@ admitted_none : (b : Bool) (c : PlainChange) → (hunk_count c == 0) ≡ true �
 admitted_none true c is = refl
 admitted_none false c is = is
 
-pub bare_keeps : (t : PlainTurn) (side : Side) (bytes : List ℕ) → is_bare t.item.patch ≡ true → text_of t side (lines bytes) ≡ bytes
+pub bare_keeps : (t : PlainContext) (side : Side) (bytes : List ℕ) → is_bare t.item.patch ≡ true → text_of t side (lines bytes) ≡ bytes
 bare_keeps t side bytes is = unchanged (lines bytes) t.options.fuzz t.options.loose side (admitted t.options side t.item.patch (lines bytes)) (admitted_none (is_barred t.options side t.item.patch (lines bytes)) t.item.patch.change is) ∙ join-lines bytes

@@ -3,16 +3,16 @@ use Rattle.std.proofs.Common.{◌≡◌, List, [], ◌∷◌, ℕ, map, if◌the
 use Rattle.outside.specs.Files.{Files}
 use Rattle.outside.specs.TreeView.{TreeView}
 use Rattle.outside.specs.SinkView.{SinkView}
-use Rattle.file_patch.specs.declared.derived.Target.{Target}
-use Rattle.file_patch.specs.declared.FilePatch.{FilePatch}
-use Rattle.file_patch.specs.Actions.{is_moved}
-use Rattle.file_patch.specs.PlainPatch.{PlainPatch, header_of, patch_of}
+use Rattle.read_file_patch.specs.declared.derived.Target.{Target}
+use Rattle.read_file_patch.specs.declared.FilePatch.{FilePatch}
+use Rattle.read_file_patch.specs.Actions.{is_moved}
+use Rattle.read_file_patch.specs.PlainPatch.{PlainPatch, header_of, patch_of}
 use Rattle.patch_options.specs.PlainJob.{PlainOptions}
 use Rattle.patch_set.specs.Named.{known_names, output_of, targets_of}
 use Rattle.patch_set.specs.declared.skipped.BinaryChange.{BinaryChange}
 use Rattle.patch_set.specs.SetView.{SetView, plain_patches, IsRead}
-use Rattle.patch_task.specs.Ready.{moved_of}
-use Rattle.patch_task.specs.declared.fault.RunFault.{RunFault}
+use Rattle.apply_task.specs.Ready.{moved_of}
+use Rattle.apply_task.specs.declared.fault.RunFault.{RunFault}
 use Rattle.patch_run.specs.OnePatch.{Item}
 use Rattle.patch_run.specs.Run.{run_of, set_run, item_of, moved_in, items_of}
 use Rattle.patch_run.specs.Doing.{IsCutAt}

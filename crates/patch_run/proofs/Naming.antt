@@ -6,10 +6,10 @@ use Rattle.std.specs.Option.{option_or, option_and_then, option_to_list}
 use Rattle.std.proofs.lemmas.List.Folds.{list_any-append}
 use Rattle.std.proofs.lemmas.Option.{slice_get-get_or}
 use Rattle.std.proofs.lemmas.Bool.{or_parts}
-use Rattle.file_patch.specs.declared.derived.Target.{Target}
+use Rattle.read_file_patch.specs.declared.derived.Target.{Target}
 use Rattle.patch_set.specs.declared.set.Row.{Row}
-use Rattle.patch_task.specs.Asking.{renames, written_place}
-use Rattle.patch_run.specs.OnePatch.{Item, PlainTurn, no_target, target_at, written_at, written, written_by, renamed_by}
+use Rattle.apply_task.specs.Asking.{renames, written_place}
+use Rattle.patch_run.specs.OnePatch.{Item, PlainContext, no_target, target_at, written_at, written, written_by, renamed_by}
 use Rattle.patch_run.specs.Laws.{targets_in}
 
 -- ---- what holds of none of the targets
@@ -30,7 +30,7 @@ module _ (p : Target → Bool) where
     pub output : list_any p (option_to_list out) ≡ false
     pub own : list_any p i.targets ≡ false
 
-  pub none_written : (t : PlainTurn) (k : ℕ) → IsNoneOf t.output t.item → k < length t.item.targets → p (written t k) ≡ false
+  pub none_written : (t : PlainContext) (k : ℕ) → IsNoneOf t.output t.item → k < length t.item.targets → p (written t k) ≡ false
   none_written t k none less = by t.output refl
     where
       here : (o : Option Target) → slice_get t.item.targets k ≡ o → p (unwrap_or o (target_at t.item.targets k)) ≡ false
@@ -63,7 +63,7 @@ chosen_is : (o here : Option Target) (d y : Target) → here ≡ Some y → opti
 chosen_is None here d y is = is ∙ ap (λ (x : Option Target). Some (unwrap_or x d)) (sym is)
 chosen_is (Some w) here d y is = refl
 
-pub written_is : (t : PlainTurn) (r : Row) (k : ℕ) → r.target ≡ Some k → k < length t.item.targets → written_by t r ≡ Some (written t k)
+pub written_is : (t : PlainContext) (r : Row) (k : ℕ) → r.target ≡ Some k → k < length t.item.targets → written_by t r ≡ Some (written t k)
 written_is t r k at less = by t.output
   where
     by : (o : Option Target) → option_or o (option_and_then (written_at t.options.reverse t.item) r.target) ≡ Some (unwrap_or o (unwrap_or (written_at t.options.reverse t.item k) (target_at t.item.targets k)))
@@ -72,7 +72,7 @@ written_is t r k at less = by t.output
         ∙ chosen_is (slice_get t.item.targets (written_place t.options.reverse t.item.patch k)) (slice_get t.item.targets k) (target_at t.item.targets k) (target_at t.item.targets k) (slice_get-get_or t.item.targets k no_target less)
     by (Some w) = refl
 
-pub renamed_is : (t : PlainTurn) (r : Row) (k : ℕ) → r.target ≡ Some k → k < length t.item.targets → renames t.item.patch ≡ true → renamed_by t r ≡ Some (target_at t.item.targets k)
+pub renamed_is : (t : PlainContext) (r : Row) (k : ℕ) → r.target ≡ Some k → k < length t.item.targets → renames t.item.patch ≡ true → renamed_by t r ≡ Some (target_at t.item.targets k)
 renamed_is t r k at less moves =
     ap (λ b. if b then option_and_then (slice_get t.item.targets) r.target else None) moves
     ∙ at_target (slice_get t.item.targets) r.target k at

@@ -7,19 +7,19 @@ use Rattle.std.proofs.lemmas.Option.{none-some, same_Some}
 use Rattle.std.specs.Option.{ForSome, option_map}
 use Rattle.outside.specs.Names.{is_absolute}
 use Rattle.hunk_core.specs.declared.Verdict.{Verdict}
-use Rattle.file_patch.specs.declared.FilePatch.{FilePatch}
-use Rattle.file_patch.specs.PlainPatch.{header_of, row_count}
-use Rattle.file_patch.specs.Absent.{IsLawfulPatch}
+use Rattle.read_file_patch.specs.declared.FilePatch.{FilePatch}
+use Rattle.read_file_patch.specs.PlainPatch.{header_of, row_count}
+use Rattle.read_file_patch.specs.Absent.{IsLawfulPatch}
 use Rattle.patch_options.specs.PlainJob.{PlainOptions, IsLawful}
-use Rattle.file_patch.specs.declared.derived.Target.{Target}
-use Rattle.file_patch.specs.Targets.{below, shown_from, reject_name}
+use Rattle.read_file_patch.specs.declared.derived.Target.{Target}
+use Rattle.read_file_patch.specs.Targets.{below, shown_from, reject_name}
 use Rattle.patch_set.specs.Named.{known_names, names_of, target_in, targets_of}
 use Rattle.patch_set.specs.SetView.{SetView, IsWhole, IsRead, hunks_in, plain_patches, with_verdicts, without_marks}
 use Rattle.patch_set.specs.SetView as of_set
 use Rattle.patch_set.specs.Spans.{ArePlaced}
 use Rattle.patch_run.specs.Doing.{StaysSet}
-use Rattle.patch_task.specs.Named.{BeginsComponent, IsNamed}
-use Rattle.patch_outcome.specs.Ready.{IsFit, IsReady, AreNumbered}
+use Rattle.apply_task.specs.Named.{BeginsComponent, IsNamed}
+use Rattle.apply_outcome.specs.Ready.{IsFit, IsReady, AreNumbered}
 use Rattle.patch_run.specs.Finishes.{HasNames}
 
 begins : (dir : Option (List ℕ)) (name : List ℕ) → BeginsComponent (below dir name) (shown_from dir name)

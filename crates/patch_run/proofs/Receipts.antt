@@ -1,10 +1,10 @@
 -- The receipt of an answer, and which answers have one.
 use Rattle.std.proofs.Common.{◌≡◌, Bool, true, false, if◌then◌else◌, Some, None, refl}
-use Rattle.patch_task.specs.declared.fault.RunFault.{RunFault}
-use Rattle.patch_task.specs.declared.fault.RunFault.TheVariants as runs
+use Rattle.apply_task.specs.declared.fault.RunFault.{RunFault}
+use Rattle.apply_task.specs.declared.fault.RunFault.TheVariants as runs
 use Rattle.patch_run.specs.Applied.{Receipt}
-use Rattle.run_answers.specs.declared.why.Why.TheVariants.{Done, Rejected, Memory}
-use Rattle.run_answers.specs.Answers.{of_run}
+use Rattle.cli_run_answers.specs.declared.why.Why.TheVariants.{Done, Rejected, Memory}
+use Rattle.cli_run_answers.specs.Answers.{of_run}
 use Rattle.patch_run.specs.Answer.{HasReceipt}
 
 -- a run that was cut off has none

@@ -14,23 +14,23 @@ use Rattle.hunk_core.specs.declared.Side.{Side}
 use Rattle.hunk_core.specs.declared.Verdict.{Verdict}
 use Rattle.hunk_core.specs.declared.Verdict.TheVariants.{Nowhere}
 use Rattle.line_store.specs.Store.{Seen}
-use Rattle.patch_task.specs.declared.fault.RunFault.{RunFault}
-use Rattle.patch_task.specs.declared.fault.RunFault.TheVariants.{Tree, Write, Scratch, LongLine, FileTooLong, Disagree, Memory}
-use Rattle.patch_start.specs.declared.starting.Decision.{Decision}
-use Rattle.patch_start.specs.declared.starting.Decision.TheVariants.{Refuse}
-use Rattle.patch_start.specs.Devices.{HasRunCause}
-use Rattle.patch_start.specs.Starting.{Starts, IsFree}
-use Rattle.patch_task.specs.Asking.{is_bare}
-use Rattle.patch_task.specs.Making.{IsTidy, TidyAfter}
-use Rattle.patch_task.proofs.Tidy.{tidy_both, untouched_tidy}
+use Rattle.apply_task.specs.declared.fault.RunFault.{RunFault}
+use Rattle.apply_task.specs.declared.fault.RunFault.TheVariants.{Tree, Write, Scratch, LongLine, FileTooLong, Disagree, Memory}
+use Rattle.apply_start.specs.declared.starting.Decision.{Decision}
+use Rattle.apply_start.specs.declared.starting.Decision.TheVariants.{Refuse}
+use Rattle.apply_start.specs.Devices.{HasRunCause}
+use Rattle.apply_start.specs.Starting.{Starts, IsFree}
+use Rattle.apply_task.specs.Asking.{is_bare}
+use Rattle.apply_task.specs.Making.{IsTidy, TidyAfter}
+use Rattle.apply_task.proofs.Tidy.{tidy_both, untouched_tidy}
 use Rattle.patch_run.specs.declared.one_patch.Done.{Done}
-use Rattle.patch_run.specs.OnePatch.{PlainTurn, bytes_of, is_unrejected, start, ending}
+use Rattle.patch_run.specs.OnePatch.{PlainContext, bytes_of, is_unrejected, start, ending}
 use Rattle.patch_run.specs.Refused.{saves_refused}
 use Rattle.patch_run.specs.Doing.{QuietAfter, HasEndCause, IsUntold, IsRefused, ArePlaced, Does}
 use Rattle.patch_run.proofs.Going.{Goes, cause_then}
 
 -- ---- whether its hunks go to a reject file
-module _ (t : PlainTurn) where
+module _ (t : PlainContext) where
   pub saves_dry : t.options.dry_run ≡ true → saves_refused t ≡ false
   saves_dry dry = ap (λ (b : Bool). not ((b || is_bare t.item.patch) || is_unrejected t.options t.item.patch.change)) dry
 
@@ -119,7 +119,7 @@ tidy_after (FileTooLong count) u v z d e is = absurd is
 tidy_after (Disagree want got) u v z d e is = absurd is
 tidy_after Memory u v z d e is = absurd is
 
-module _ (t : PlainTurn) (u v : TreeView) (a b : Seen) (c d : SinkView) (scratch_after : ℕ → List ℕ → Option (List ℕ) → Option (List ℕ)) (decision : Decision) (begins : Starts u v a b c d scratch_after (Ok decision) (bytes_of t) (start t))
+module _ (t : PlainContext) (u v : TreeView) (a b : Seen) (c d : SinkView) (scratch_after : ℕ → List ℕ → Option (List ℕ) → Option (List ℕ)) (decision : Decision) (begins : Starts u v a b c d scratch_after (Ok decision) (bytes_of t) (start t))
     (place : ℕ) (side : Side) (is : decision ≡ Refuse place side) where
   pub untold_at : IsUntold u
   untold_at = subst (IsFree u) is begins.free
@@ -148,6 +148,6 @@ module _ (t : PlainTurn) (u v : TreeView) (a b : Seen) (c d : SinkView) (scratch
       }
 
 -- where a file patch is refused once its start left the tree as it is, the tree told no files before it either
-pub placed_before : {u v : TreeView} (t : PlainTurn) (done : Done) (count : ℕ) (verdicts placed : List Verdict) → IsUntouched u v → ((verdicts ≡ placed) ⊎ ((IsUntold v × IsRefused t done) × (verdicts ≡ replicate count Nowhere)))
+pub placed_before : {u v : TreeView} (t : PlainContext) (done : Done) (count : ℕ) (verdicts placed : List Verdict) → IsUntouched u v → ((verdicts ≡ placed) ⊎ ((IsUntold v × IsRefused t done) × (verdicts ≡ replicate count Nowhere)))
     → ArePlaced (IsUntold u × IsRefused t done) count verdicts placed
 placed_before t done count verdicts placed same are = inr (⊎_elim (λ is. inl is) (λ refused. inr ((λ f told. refused.0.0 f (same.told ∙ told), refused.0.1), refused.1)) are)

@@ -18,14 +18,14 @@ use Rattle.hunk_core.specs.declared.Verdict.{Verdict}
 use Rattle.hunk_core.specs.declared.Verdict.TheVariants.{Ignored}
 use Rattle.hunk_apply.specs.Session.{is_failed}
 use Rattle.patch_options.specs.PlainJob.{PlainOptions}
-use Rattle.file_patch.specs.declared.derived.Target.{Target}
+use Rattle.read_file_patch.specs.declared.derived.Target.{Target}
 use Rattle.patch_set.specs.declared.set.Row.{Row}
-use Rattle.patch_task.specs.TargetEffects.{put_if}
-use Rattle.patch_task.proofs.EffectLists.{after_all-append}
-use Rattle.patch_run.specs.OnePatch.{Item, Mark, PlainTurn, Start, skips, refuses, tries, Ending, ended, stopped, Tried, total, bytes_of, lines_in, target_at, written, written_by, tried, failed, written_effects, effects_of, finished_at, is_unrejected, has_rejects, own_reject, mark_of, is_name, text_if, rejected_before, start, ending_of, ending}
+use Rattle.apply_task.specs.TargetEffects.{put_if}
+use Rattle.apply_task.proofs.EffectLists.{after_all-append}
+use Rattle.patch_run.specs.OnePatch.{Item, PastFilePatch, PlainContext, Start, skips, refuses, tries, Ending, ended, stopped, Tried, total, bytes_of, lines_in, target_at, written, written_by, tried, failed, written_effects, effects_of, finished_at, is_unrejected, has_rejects, own_reject, mark_of, is_name, text_if, rejected_before, start, ending_of, ending}
 use Rattle.patch_run.specs.Run.{Run, begun, files_after, turn_of, with_ending, if_going, with_item, run_on, run_of}
 use Rattle.patch_run.specs.Laws.{targets_in, is_kept_for, rejects_to}
-use Rattle.patch_start.proofs.Places.{IsTriedWithin, start_within}
+use Rattle.apply_start.proofs.Places.{IsTriedWithin, start_within}
 use Rattle.patch_run.proofs.Naming.{IsNoneOf, none_at, none_written, none_first, written_is}
 use Rattle.patch_run.proofs.Standing.{Others, all_stays, cleared_stays, written_others}
 use Rattle.patch_run.proofs.Unwritten.{unlike}
@@ -47,7 +47,7 @@ module _ (q : List ℕ) (lasting : is_temp q ≡ false) where
 
   -- ---- one file patch whose hunks were tried
 
-  module _ (t : PlainTurn) (f : Files) (s w : Target) (x : Tried) (others : t.options.dry_run ≡ false → Others q (written_effects t f s w x)) where
+  module _ (t : PlainContext) (f : Files) (s w : Target) (x : Tried) (others : t.options.dry_run ≡ false → Others q (written_effects t f s w x)) where
     -- its rejects, with the name of their file
     abbrev mine : Bool → Bool → Option (List ℕ × List ℕ)
     mine has dry = if has && not dry then Some (w.reject, own_reject t w x.side x.verdicts) else None
@@ -91,7 +91,7 @@ module _ (q : List ℕ) (lasting : is_temp q ≡ false) where
         ap (λ (o : Option Target). if has_rejects t x.verdicts && not dry then option_map (λ y. (y.reject, own_reject t y r.side x.verdicts)) o else None) is
         ∙ ap (λ (side : Side). if has_rejects t x.verdicts && not dry then Some (w.reject, own_reject t w side x.verdicts) else None) from
 
-  tried_rejects : (t : PlainTurn) (f : Files) (said : List ℕ) (place : ℕ) (side : Side) → place < length t.item.targets → IsNoneOf kept_for t.output t.item
+  tried_rejects : (t : PlainContext) (f : Files) (said : List ℕ) (place : ℕ) (side : Side) → place < length t.item.targets → IsNoneOf kept_for t.output t.item
       → get (files_after (finished_at t f said place side) f) q ≡ text_in q (mark_of t (finished_at t f said place side).row (finished_at t f said place side).verdicts).rejected (get f q) (rejected_before t.past q)
   tried_rejects t f said place side less none =
       let st = finished_at t f said place side in
@@ -108,21 +108,21 @@ module _ (q : List ℕ) (lasting : is_temp q ≡ false) where
   -- ---- any file patch
 
   -- what stands there behind it is told by its mark
-  abbrev Rejects : PlainTurn → Files → Ending → Type 0
+  abbrev Rejects : PlainContext → Files → Ending → Type 0
   Rejects t f (ended st) = get (files_after st f) q ≡ text_in q (mark_of t st.row st.verdicts).rejected (get f q) (rejected_before t.past q)
   Rejects t f (stopped said fault) = Unit {0}
 
-  unrejected : (t : PlainTurn) (r : Row) → (mark_of t r (replicate (total t) Ignored)).rejected ≡ None
+  unrejected : (t : PlainContext) (r : Row) → (mark_of t r (replicate (total t) Ignored)).rejected ≡ None
   unfolding mark_of
   unrejected t r =
       ap (λ n. if (nat_lt 0 n && not (is_unrejected t.options t.item.patch.change)) && not t.options.dry_run then option_map (λ w. (w.reject, own_reject t w r.side (replicate (total t) Ignored))) (written_by t r) else None) (none_failed (total t))
 
-  start_rejects : (t : PlainTurn) (f : Files) (s : Start) → IsTriedWithin (length t.item.targets) s → IsNoneOf kept_for t.output t.item → Rejects t f (ending_of t f s)
+  start_rejects : (t : PlainContext) (f : Files) (s : Start) → IsTriedWithin (length t.item.targets) s → IsNoneOf kept_for t.output t.item → Rejects t f (ending_of t f s)
   start_rejects t f (skips said row taken) less none = ap (λ (r : Option (List ℕ × List ℕ)). text_in q r (get f q) (rejected_before t.past q)) (sym (unrejected t row))
   start_rejects t f (refuses said fault) less none = tt
   start_rejects t f (tries said place side) less none = tried_rejects t f said place side less none
 
-  ending_rejects : (t : PlainTurn) (f : Files) → IsNoneOf kept_for t.output t.item → Rejects t f (ending t f)
+  ending_rejects : (t : PlainContext) (f : Files) → IsNoneOf kept_for t.output t.item → Rejects t f (ending t f)
   unfolding ending
   ending_rejects t f none = start_rejects t f (start t f) (start_within t f) none
 
@@ -136,24 +136,24 @@ module _ (q : List ℕ) (lasting : is_temp q ≡ false) where
   no_text None is = refl
   no_text (Some r) is = ap (λ b. if b then r.1 else []) is
 
-  before_more : (past : List Mark) (m : Mark) → rejected_before (past ++ m ∷ []) q ≡ rejected_before past q ++ text_if q m.rejected
+  before_more : (past : List PastFilePatch) (m : PastFilePatch) → rejected_before (past ++ m ∷ []) q ≡ rejected_before past q ++ text_if q m.rejected
   unfolding rejected_before
   before_more past m =
-      flat_map-append (λ (x : Mark). text_if q x.rejected) past (m ∷ [])
-      ∙ ap (λ (l : List ℕ). flat_map (λ (x : Mark). text_if q x.rejected) past ++ l) (append-nil (text_if q m.rejected))
+      flat_map-append (λ (x : PastFilePatch). text_if q x.rejected) past (m ∷ [])
+      ∙ ap (λ (l : List ℕ). flat_map (λ (x : PastFilePatch). text_if q x.rejected) past ++ l) (append-nil (text_if q m.rejected))
 
   or_false : (a b : Bool) → b ≡ false → (a || (b || false)) ≡ a
   or_false true b is = refl
   or_false false b is = ap (λ x. x || false) is
 
-  with_rejects_too : (t : PlainTurn) (r : Run) (e : Ending) → t.past ≡ r.past → Rejects t r.files e → HoldsRejects r → HoldsRejects (with_ending t r e)
+  with_rejects_too : (t : PlainContext) (r : Run) (e : Ending) → t.past ≡ r.past → Rejects t r.files e → HoldsRejects r → HoldsRejects (with_ending t r e)
   with_rejects_too t r (ended st) same here holds = by (rejects_to q (mark_of t st.row st.verdicts)) refl
     where
       by : (b : Bool) → rejects_to q (mark_of t st.row st.verdicts) ≡ b → HoldsRejects (with_ending t r (ended st))
       by true is any =
           here
           ∙ ap (λ c. if c then Some (rejected_before t.past q ++ text_if q (mark_of t st.row st.verdicts).rejected) else get r.files q) is
-          ∙ ap (λ (l : List Mark). Some (rejected_before l q ++ text_if q (mark_of t st.row st.verdicts).rejected)) same
+          ∙ ap (λ (l : List PastFilePatch). Some (rejected_before l q ++ text_if q (mark_of t st.row st.verdicts).rejected)) same
           ∙ ap (λ (l : List ℕ). Some l) (sym (before_more r.past (mark_of t st.row st.verdicts)))
       by false is any =
           let one = mark_of t st.row st.verdicts in

@@ -7,13 +7,13 @@ use Rattle.outside.specs.Files.{Files, bytes_at}
 use Rattle.outside.specs.Quiet.{Effect}
 use Rattle.outside.specs.Quiet.Effect.{Put, Remove}
 use Rattle.hunk_apply.specs.Written.{is_nothing}
-use Rattle.file_patch.specs.Absent.{deletes}
+use Rattle.read_file_patch.specs.Absent.{deletes}
 use Rattle.patch_options.specs.PlainJob.{PlainOptions}
-use Rattle.file_patch.specs.declared.derived.Target.{Target}
-use Rattle.patch_task.specs.TargetEffects.{put_if, backup_effects, target_effects, moving_effects, moved_effects}
-use Rattle.patch_task.specs.Asking.{moves, renames}
-use Rattle.patch_task.specs.Kinds.{is_link}
-use Rattle.patch_run.specs.OnePatch.{Item, PlainTurn, Start, skips, refuses, tries, Ending, ended, stopped, Tried, bytes_of, lines_in, target_at, written, tried, is_backup_due, is_old_kept, is_removal, is_moving, is_written, made_effects, written_effects, has_rejects, rejects_text, reject_effects, effects_of, finished_at, start, ending_of, ending}
+use Rattle.read_file_patch.specs.declared.derived.Target.{Target}
+use Rattle.apply_task.specs.TargetEffects.{put_if, backup_effects, target_effects, moving_effects, moved_effects}
+use Rattle.apply_task.specs.Asking.{moves, renames}
+use Rattle.apply_task.specs.Kinds.{is_link}
+use Rattle.patch_run.specs.OnePatch.{Item, PlainContext, Start, skips, refuses, tries, Ending, ended, stopped, Tried, bytes_of, lines_in, target_at, written, tried, is_backup_due, is_old_kept, is_removal, is_moving, is_written, made_effects, written_effects, has_rejects, rejects_text, reject_effects, effects_of, finished_at, start, ending_of, ending}
 use Rattle.patch_run.specs.Run.{Run, begun, turn_of, with_ending, if_going, with_item, run_on, run_of}
 use Rattle.patch_run.specs.Laws.{removed_in, keeps_files, IsSource, TakesItsSource}
 use Rattle.patch_run.proofs.Standing.{first_of}
@@ -34,7 +34,7 @@ module _ (Q : List ℕ → Type 0) where
   takes_put true name bytes = tt
   takes_put false name bytes = tt
 
-  module _ (t : PlainTurn) (f : Files) (s w : Target) (x : Tried) (stays : is_removal t x ≡ false) (source : renames t.item.patch ≡ true → Q s.name) where
+  module _ (t : PlainContext) (f : Files) (s w : Target) (x : Tried) (stays : is_removal t x ≡ false) (source : renames t.item.patch ≡ true → Q s.name) where
     takes_made : Takes (made_effects t f s w x)
     takes_made = by (is_moving t f s w) refl
       where
@@ -77,11 +77,11 @@ kept_tests false true true true false false moving nodef del is = refl
 kept_tests false false true true false false true nodef del is = refl
 kept_tests false false true true false false false nodef del is = refl
 
-no_removal : (t : PlainTurn) (x : Tried) → keeps_files t.options t.item.patch ≡ true → is_removal t x ≡ false
+no_removal : (t : PlainContext) (x : Tried) → keeps_files t.options t.item.patch ≡ true → is_removal t x ≡ false
 no_removal t x is =
     kept_tests (is_some t.options.define) (is_some t.options.output) (is_nothing x.text) t.options.posix t.options.remove_empty (is_link t.item.patch) (moves t.item.patch) (is_none t.options.define) (deletes x.side t.item.patch) is
 
-start_takes : (t : PlainTurn) (f : Files) (s : Start) → keeps_files t.options t.item.patch ≡ true → TakesItsSource t (ending_of t f s)
+start_takes : (t : PlainContext) (f : Files) (s : Start) → keeps_files t.options t.item.patch ≡ true → TakesItsSource t (ending_of t f s)
 start_takes t f (skips said row taken) is = tt
 start_takes t f (refuses said fault) is = tt
 start_takes t f (tries said place side) is =
@@ -89,7 +89,7 @@ start_takes t f (tries said place side) is =
     let x = tried t side (lines_in (bytes_of t f place)) in
     takes_effects (IsSource t st.row) t f (target_at t.item.targets place) (written t place) x (no_removal t x is) (λ moves. (moves, (place, (refl, refl))))
 
-pub takes_source : (t : PlainTurn) (f : Files) → keeps_files t.options t.item.patch ≡ true → TakesItsSource t (ending t f)
+pub takes_source : (t : PlainContext) (f : Files) → keeps_files t.options t.item.patch ≡ true → TakesItsSource t (ending t f)
 unfolding ending
 takes_source t f is = start_takes t f (start t f) is
 
@@ -108,7 +108,7 @@ removed-both (Remove name ∷ xs) ys = ap (λ (l : List (List ℕ)). name ∷ l)
 removed-more : (xs ys : List Effect) → removed_in xs ≡ [] → removed_in ys ≡ [] → removed_in (xs ++ ys) ≡ []
 removed-more xs ys one other = removed-both xs ys ∙ ap (λ (l : List (List ℕ)). l ++ removed_in ys) one ∙ other
 
-with_none : (t : PlainTurn) (r : Run) (e : Ending) → renames t.item.patch ≡ false → TakesItsSource t e → removed_in r.effects ≡ [] → removed_in (with_ending t r e).effects ≡ []
+with_none : (t : PlainContext) (r : Run) (e : Ending) → renames t.item.patch ≡ false → TakesItsSource t e → removed_in r.effects ≡ [] → removed_in (with_ending t r e).effects ≡ []
 with_none t r (ended st) stays takes none =
     removed-more r.effects st.effects none (none_of (IsSource t st.row) (removed_in st.effects) (λ name is. false≢true (sym stays ∙ is.0)) takes)
 with_none t r (stopped said fault) stays takes none = none

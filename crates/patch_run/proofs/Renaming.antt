@@ -7,14 +7,14 @@ use Rattle.outside.specs.Files.{Files, temp_of}
 use Rattle.outside.specs.Quiet.{Effect, after_all}
 use Rattle.outside.specs.Quiet.Effect.{Put, Remove}
 use Rattle.outside.proofs.Names.{apart, get-put, get-gone, get-gone_other}
-use Rattle.file_patch.specs.declared.derived.Target.{Target}
-use Rattle.patch_task.specs.Named.{IsNamed}
-use Rattle.patch_task.specs.TargetEffects.{backup_effects}
-use Rattle.patch_task.proofs.EffectLists.{after_all-append}
-use Rattle.patch_run.specs.OnePatch.{PlainTurn, Tried, is_backup_due, is_moving, is_written, written_effects}
-use Rattle.patch_task.specs.Asking.{renames}
+use Rattle.read_file_patch.specs.declared.derived.Target.{Target}
+use Rattle.apply_task.specs.Named.{IsNamed}
+use Rattle.apply_task.specs.TargetEffects.{backup_effects}
+use Rattle.apply_task.proofs.EffectLists.{after_all-append}
+use Rattle.patch_run.specs.OnePatch.{PlainContext, Tried, is_backup_due, is_moving, is_written, written_effects}
+use Rattle.apply_task.specs.Asking.{renames}
 use Rattle.patch_run.specs.Laws.{IsRenamed}
-use Rattle.patch_outcome.proofs.Writing.{written_as, moved_as}
+use Rattle.apply_outcome.proofs.Writing.{written_as, moved_as}
 
 -- ---- a rename
 
@@ -44,7 +44,7 @@ differing a d x y is same = no a d (bytes_eq x y) ((bytes_eq-Decides x y).1 (sym
     no false d true eq is = false≢true is
     no a d false eq is = false≢true eq
 
-pub renamed : (t : PlainTurn) (f : Files) (s w : Target) (x : Tried) → IsNamed w → is_moving t f s w ≡ true → is_written t x ≡ true → IsRenamed (after_all (written_effects t f s w x) f) s w x.output
+pub renamed : (t : PlainContext) (f : Files) (s w : Target) (x : Tried) → IsNamed w → is_moving t f s w ≡ true → is_written t x ≡ true → IsRenamed (after_all (written_effects t f s w x) f) s w x.output
 renamed t f s w x named moving is =
     let due = is_backup_due t w s x.verdicts in
     let other = is_backup_due t s w x.verdicts in

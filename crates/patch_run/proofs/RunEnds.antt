@@ -6,26 +6,26 @@ use Rattle.outside.specs.Files.{Files}
 use Rattle.outside.specs.TreeView.{TreeView, passes_both, told_on}
 use Rattle.outside.specs.SinkView.{SinkView, sink_passes_both}
 use Rattle.hunk_core.specs.declared.Verdict.{Verdict}
-use Rattle.patch_task.specs.Outputs.{verdicts_over}
-use Rattle.file_patch.specs.declared.FilePatch.{FilePatch}
-use Rattle.file_patch.specs.PlainPatch.{patch_of, row_count}
+use Rattle.apply_task.specs.Outputs.{verdicts_over}
+use Rattle.read_file_patch.specs.declared.FilePatch.{FilePatch}
+use Rattle.read_file_patch.specs.PlainPatch.{patch_of, row_count}
 use Rattle.line_store.specs.Store.{Seen}
 use Rattle.patch_options.specs.PlainJob.{PlainOptions}
 use Rattle.patch_set.specs.declared.set.Row.{Row}
 use Rattle.patch_set.specs.SetView.{SetView, with_row, hunks_in}
-use Rattle.file_patch.specs.declared.derived.Target.{Target}
-use Rattle.patch_task.specs.declared.fault.RunFault.{RunFault}
-use Rattle.patch_task.specs.declared.fault.RunFault.TheVariants.{Tree, Write, Scratch, LongLine, FileTooLong, Disagree, Memory}
+use Rattle.read_file_patch.specs.declared.derived.Target.{Target}
+use Rattle.apply_task.specs.declared.fault.RunFault.{RunFault}
+use Rattle.apply_task.specs.declared.fault.RunFault.TheVariants.{Tree, Write, Scratch, LongLine, FileTooLong, Disagree, Memory}
 use Rattle.patch_run.specs.Applied.{Receipt}
 use Rattle.patch_run.specs.declared.one_patch.Done.{Done}
-use Rattle.patch_start.specs.Devices.{Told}
+use Rattle.apply_start.specs.Devices.{Told}
 use Rattle.patch_run.specs.OnePatch.{Item, ending}
 use Rattle.patch_run.specs.Run.{Run, items_of, set_run}
-use Rattle.patch_outcome.specs.Ready.{rows_in, turn_at}
+use Rattle.apply_outcome.specs.Ready.{rows_in, turn_at}
 use Rattle.patch_run.specs.Doing.{QuietAfter, Does, IsCutOff, IsCutAt, Runs, NoneFailed, EndsSo, IsReceipt, StaysSet, IsUntold, ArePlaced, IsPlacedOn, IsPlacedLast}
-use Rattle.patch_task.proofs.Tidy.{tidy_both, unless_then}
+use Rattle.apply_task.proofs.Tidy.{tidy_both, unless_then}
 use Rattle.patch_run.proofs.Folding.{cut_moments}
-use Rattle.patch_outcome.proofs.Marks.{rows-last}
+use Rattle.apply_outcome.proofs.Marks.{rows-last}
 use Rattle.patch_run.proofs.Going.{Goes, IsAt, IsNext, run_to, same-items, same-run, all-run, plan_both, cause_then, at_fault, at_cut}
 
 quiet_still : (R S : Type 0) (w : TreeView) (fault : RunFault) → QuietAfter {R = R} (Err fault) w → QuietAfter {R = S} (Err fault) w

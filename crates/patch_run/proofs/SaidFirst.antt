@@ -3,14 +3,14 @@ use Rattle.std.proofs.Common.{◌≡◌, List, [], ◌∷◌, ◌++◌, ℕ, tru
 use Rattle.std.proofs.Math.Bool.{or-true}
 use Rattle.outside.specs.Files.{Files}
 use Rattle.patch_options.specs.PlainJob.{PlainOptions}
-use Rattle.patch_start.specs.Skipping.{changes_said, has_failing}
-use Rattle.file_patch.specs.declared.derived.Target.{Target}
-use Rattle.patch_run.specs.OnePatch.{Item, PlainTurn, Start, skips, refuses, tries, said_first, lines_in, bytes_of, written, tried, some_failed, is_kept, fails_first, tried_said, ignored_said, Ending, ended, stopped, ending_of, own_start, start, ending}
+use Rattle.apply_start.specs.Skipping.{changes_said, has_failing}
+use Rattle.read_file_patch.specs.declared.derived.Target.{Target}
+use Rattle.patch_run.specs.OnePatch.{Item, PlainContext, Start, skips, refuses, tries, said_first, lines_in, bytes_of, written, tried, some_failed, is_kept, fails_first, tried_said, ignored_said, Ending, ended, stopped, ending_of, own_start, start, ending}
 use Rattle.patch_run.specs.Run.{Run, begun, turn_of, with_ending, if_going, with_item, run_on, run_of}
 use Rattle.patch_run.specs.Doing.{said_of}
 use Rattle.patch_run.proofs.Folding.{more_on}
 
-told-first : (t : PlainTurn) (f : Files) (s : Start) (p : List ℕ) → (more : List ℕ) × (said_of (ending_of t f (said_first p s)) ≡ p ++ more)
+told-first : (t : PlainContext) (f : Files) (s : Start) (p : List ℕ) → (more : List ℕ) × (said_of (ending_of t f (said_first p s)) ≡ p ++ more)
 told-first t f (skips said row taken) p = (said ++ ignored_said t, append_assoc p said (ignored_said t))
 told-first t f (refuses said fault) p = (said, refl)
 told-first t f (tries said place side) p =
@@ -21,7 +21,7 @@ first-ending : (o : PlainOptions) (output : Option Target) (i : Item) (f : Files
 unfolding ending start
 first-ending o output i f = told-first (turn_of o output (begun f) i) f (own_start (turn_of o output (begun f) i) f) (changes_said o i.skipped)
 
-said-with : (t : PlainTurn) (f : Files) (e : Ending) → (with_ending t (begun f) e).said ≡ said_of e
+said-with : (t : PlainContext) (f : Files) (e : Ending) → (with_ending t (begun f) e).said ≡ said_of e
 said-with t f (ended s) = refl
 said-with t f (stopped said fault) = refl
 
@@ -41,7 +41,7 @@ run-first o output i items f =
 abbrev IsSpoiled : Run → Type 0
 IsSpoiled r = r.stop ≡ None → r.is_bad ≡ true
 
-spoiled-ending : (t : PlainTurn) (r : Run) (e : Ending) → r.is_bad ≡ true → IsSpoiled (with_ending t r e)
+spoiled-ending : (t : PlainContext) (r : Run) (e : Ending) → r.is_bad ≡ true → IsSpoiled (with_ending t r e)
 spoiled-ending t r (ended s) bad = λ going. ap (λ b. b || s.is_bad) bad
 spoiled-ending t r (stopped said fault) bad = λ going. absurd (cc)
 
@@ -58,7 +58,7 @@ unfolding run_on
 spoiled-on o output [] r bad = bad
 spoiled-on o output (i ∷ items) r bad = spoiled-on o output items (with_item o output r i) (spoiled-item o output i r bad)
 
-failed-first : (t : PlainTurn) (r : Run) (f : Files) (s : Start) → fails_first t ≡ true → IsSpoiled (with_ending t r (ending_of t f s))
+failed-first : (t : PlainContext) (r : Run) (f : Files) (s : Start) → fails_first t ≡ true → IsSpoiled (with_ending t r (ending_of t f s))
 failed-first t r f (skips said row taken) fails = λ going. or-true r.is_bad
 failed-first t r f (refuses said fault) fails = λ going. absurd (cc)
 failed-first t r f (tries said place side) fails = λ going.

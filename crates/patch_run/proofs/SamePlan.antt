@@ -7,16 +7,16 @@ use Rattle.hunk_core.specs.declared.Verdict.{Verdict}
 use Rattle.hunk_core.specs.PlainHunk.{PlainHunk}
 use Rattle.patch_options.specs.PlainJob.{PlainOptions}
 use Rattle.patch_options.specs.declared.options.PlanKind.{PlanKind}
-use Rattle.file_patch.specs.declared.derived.Target.{Target}
+use Rattle.read_file_patch.specs.declared.derived.Target.{Target}
 use Rattle.patch_set.specs.Refusals.{refusal}
 use Rattle.patch_set.specs.declared.skipped.BinaryChange.{BinaryChange}
-use Rattle.patch_run.specs.OnePatch.{Item, PlainTurn, Tried, is_reversed, start, changes_said, hunk_said, hunks_said, tried_said, mark_of, effects_of, wrote, ending}
+use Rattle.patch_run.specs.OnePatch.{Item, PlainContext, Tried, is_reversed, start, changes_said, hunk_said, hunks_said, tried_said, mark_of, effects_of, wrote, ending}
 use Rattle.patch_run.specs.Run.{Run, turn_of, with_item, run_on}
 use Rattle.patch_run.specs.Outcome.{with_plan}
 
 module _ (plan : PlanKind) where
   -- the turn with the other plan
-  abbrev replanned : PlainTurn → PlainTurn
+  abbrev replanned : PlainContext → PlainContext
   replanned t = record { options = with_plan plan t.options; output = t.output; item = t.item; past = t.past }
 
   -- ---- one file patch
@@ -28,7 +28,7 @@ module _ (plan : PlanKind) where
   unfolding changes_said
   changes_same o cs = refl
 
-  start_same : (t : PlainTurn) (f : Files) → start (replanned t) f ≡ start t f
+  start_same : (t : PlainContext) (f : Files) → start (replanned t) f ≡ start t f
   unfolding start
   start_same t f = grind (arith, reversed_same t.options, changes_same t.options t.item.skipped)
 
@@ -40,11 +40,11 @@ module _ (plan : PlanKind) where
   hunks_same o end before [] = refl
   hunks_same o end before (row ∷ rows) = rw (hunk_same o end, hunks_same o end (before ++ row ∷ []) rows) refl
 
-  tried_same : (t : PlainTurn) (w : Target) (x : Tried) → tried_said (replanned t) w x ≡ tried_said t w x
+  tried_same : (t : PlainContext) (w : Target) (x : Tried) → tried_said (replanned t) w x ≡ tried_said t w x
   unfolding tried_said
   tried_same t w x = grind (arith, hunks_same t.options x.end [])
 
-  ending_same : (t : PlainTurn) (f : Files) → ending (replanned t) f ≡ ending t f
+  ending_same : (t : PlainContext) (f : Files) → ending (replanned t) f ≡ ending t f
   unfolding effects_of wrote ending
   ending_same t f = rw (start_same t f) (grind (arith, tried_same t))
 

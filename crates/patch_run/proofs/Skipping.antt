@@ -11,10 +11,10 @@ use Rattle.name_choice.specs.declared.Choice.{Choice}
 use Rattle.name_choice.specs.declared.Choice.TheVariants.{Existing, Create, Nothing}
 use Rattle.say_text.specs.Messages.{silenced, reversed_line}
 use Rattle.say_text.specs.declared.standing.Standing.{Standing}
-use Rattle.patch_run.specs.OnePatch.{PlainTurn, Start, skips, refuses, tries, said_first, skips_at, lines_in, first_hunk, is_reversed, turns_round, on_direction, lacks_word, prereq_said, on_prereq, refusal_of, refused_or, on_taking, unfit, unfit_said, on_misfit, is_needed, is_forced, on_fitting, on_file, patching_said, on_meant, unmeant_said, on_target, on_choice, choice_of, skipped_said, own_start, start, bytes_of, written}
-use Rattle.patch_task.specs.Asking.{moves, source_at}
-use Rattle.patch_task.specs.Kinds.{is_meant}
-use Rattle.patch_task.specs.Turns.{is_source}
+use Rattle.patch_run.specs.OnePatch.{PlainContext, Start, skips, refuses, tries, said_first, skips_at, lines_in, first_hunk, is_reversed, turns_round, on_direction, lacks_word, prereq_said, on_prereq, refusal_of, refused_or, on_taking, unfit, unfit_said, on_misfit, is_needed, is_forced, on_fitting, on_file, patching_said, on_meant, unmeant_said, on_target, on_choice, choice_of, skipped_said, own_start, start, bytes_of, written}
+use Rattle.apply_task.specs.Asking.{moves, source_at}
+use Rattle.apply_task.specs.Kinds.{is_meant}
+use Rattle.apply_task.specs.Contexts.{is_source}
 use Rattle.patch_run.specs.Laws.{IsSkip, is_taken, is_over_needed, is_unsuited_if_meant, is_unsuited, is_skipped, goes_over_needed}
 
 abbrev is_skip : Start → Bool
@@ -94,7 +94,7 @@ needed_stays true true false turns = refl
 needed_stays true true true true = refl
 needed_stays true true true false = refl
 
-module _ (t : PlainTurn) (k : ℕ) where
+module _ (t : PlainContext) (k : ℕ) where
   skip_direction : (bytes : Option (List ℕ)) (was : Bool) (side : Side)
       → is_skip (on_direction t k bytes was side) ≡ by_direction t.options.force was (is_reversed t.options (lines_in bytes) side (first_hunk t.item.patch.change)) (turns_round t)
   skip_direction bytes was side =
@@ -159,12 +159,12 @@ module _ (t : PlainTurn) (k : ℕ) where
       ∙ ap (λ b. if meant then b else true) (skip_meant f)
       ∙ unless_meant meant (is_unsuited_if_meant t f k)
 
-skip_choice : (t : PlainTurn) (f : Files) (c : Choice) → is_skip (on_choice t f c) ≡ is_skipped t f c
+skip_choice : (t : PlainContext) (f : Files) (c : Choice) → is_skip (on_choice t f c) ≡ is_skipped t f c
 skip_choice t f (Existing k) = skip_target t k f
 skip_choice t f (Create k) = skip_target t k f
 skip_choice t f Nothing = refl
 
-pub skipped_as : (t : PlainTurn) (f : Files) → IsSkip (start t f) ↔ (is_skipped t f (choice_of t f) ≡ true)
+pub skipped_as : (t : PlainContext) (f : Files) → IsSkip (start t f) ↔ (is_skipped t f (choice_of t f) ≡ true)
 unfolding start
 skipped_as t f =
     let c = choice_of t f in
@@ -185,19 +185,19 @@ over_skips true over rest is = refl
 over_skips false true rest is = refl
 over_skips false false rest is = absurd (false≢true is)
 
-forced_choice : (t : PlainTurn) (f : Files) (c : Choice) → t.options.force ≡ true → is_skipped t f c ≡ true → (c ≡ Nothing) ⊎ ((is_meant t.item.patch ≡ false) ⊎ (goes_over_needed t f c ≡ true))
+forced_choice : (t : PlainContext) (f : Files) (c : Choice) → t.options.force ≡ true → is_skipped t f c ≡ true → (c ≡ Nothing) ⊎ ((is_meant t.item.patch ≡ false) ⊎ (goes_over_needed t f c ≡ true))
 forced_choice t f (Existing k) forced is = inr (forced_only (is_meant t.item.patch) (is_over_needed t f k) t.options.force _ forced is)
 forced_choice t f (Create k) forced is = inr (forced_only (is_meant t.item.patch) (is_over_needed t f k) t.options.force _ forced is)
 forced_choice t f Nothing forced is = inl refl
 
-needed_choice : (t : PlainTurn) (f : Files) (c : Choice) → goes_over_needed t f c ≡ true → is_skipped t f c ≡ true
+needed_choice : (t : PlainContext) (f : Files) (c : Choice) → goes_over_needed t f c ≡ true → is_skipped t f c ≡ true
 needed_choice t f (Existing k) is = over_skips (not (is_meant t.item.patch)) (is_over_needed t f k) _ is
 needed_choice t f (Create k) is = over_skips (not (is_meant t.item.patch)) (is_over_needed t f k) _ is
 needed_choice t f Nothing is = refl
 
 -- a file patch is skipped only where no name results, or where it would go over a file that is needed
-pub forced_skip : (t : PlainTurn) (f : Files) → t.options.force ≡ true → IsSkip (start t f) → (choice_of t f ≡ Nothing) ⊎ ((is_meant t.item.patch ≡ false) ⊎ (goes_over_needed t f (choice_of t f) ≡ true))
+pub forced_skip : (t : PlainContext) (f : Files) → t.options.force ≡ true → IsSkip (start t f) → (choice_of t f ≡ Nothing) ⊎ ((is_meant t.item.patch ≡ false) ⊎ (goes_over_needed t f (choice_of t f) ≡ true))
 forced_skip t f forced is = forced_choice t f (choice_of t f) forced ((skipped_as t f).0 is)
 
-pub needed_skip : (t : PlainTurn) (f : Files) → goes_over_needed t f (choice_of t f) ≡ true → IsSkip (start t f)
+pub needed_skip : (t : PlainContext) (f : Files) → goes_over_needed t f (choice_of t f) ≡ true → IsSkip (start t f)
 needed_skip t f is = (skipped_as t f).1 (needed_choice t f (choice_of t f) is)

@@ -7,12 +7,12 @@ use Rattle.outside.specs.Files.{Files, is_temp, temp_of, bytes_at}
 use Rattle.outside.specs.Quiet.{Effect, after, after_all}
 use Rattle.outside.specs.Quiet.Effect.{Put, Remove}
 use Rattle.outside.proofs.Names.{apart, temp_of_is_temp, get-put_other, get-gone_other}
-use Rattle.file_patch.specs.declared.derived.Target.{Target}
-use Rattle.patch_task.specs.TargetEffects.{put_if, backup_effects, target_effects, moving_effects, moved_effects}
-use Rattle.patch_task.specs.Asking.{renames}
-use Rattle.patch_run.specs.OnePatch.{PlainTurn, Tried, is_backup_due, is_old_kept, is_removal, is_moving, is_written, made_effects, written_effects, has_rejects, rejects_text, reject_effects, effects_of, wrote}
+use Rattle.read_file_patch.specs.declared.derived.Target.{Target}
+use Rattle.apply_task.specs.TargetEffects.{put_if, backup_effects, target_effects, moving_effects, moved_effects}
+use Rattle.apply_task.specs.Asking.{renames}
+use Rattle.patch_run.specs.OnePatch.{PlainContext, Tried, is_backup_due, is_old_kept, is_removal, is_moving, is_written, made_effects, written_effects, has_rejects, rejects_text, reject_effects, effects_of, wrote}
 use Rattle.patch_run.specs.Run.{cleared}
-use Rattle.patch_outcome.proofs.Writing.{moved_stays, wrote_as}
+use Rattle.apply_outcome.proofs.Writing.{moved_stays, wrote_as}
 
 abbrev pub changed : Effect → List ℕ
 changed (Put name bytes) = name
@@ -54,7 +54,7 @@ module _ (q : List ℕ) where
     cleared_stays (Some name) f = get-gone_other f (temp_of name) q (apart q (temp_of name) lasting (temp_of_is_temp name))
 
   -- ---- one file patch
-  module _ (t : PlainTurn) (f : Files) (s w : Target) (x : Tried) where
+  module _ (t : PlainContext) (f : Files) (s w : Target) (x : Tried) where
     target_others : (removal : Bool) → ((not removal || is_some (get f w.name)) ≡ true → q ≢ w.name) → Others (target_effects removal f w x.output)
     target_others false ne = (ne refl, tt)
     target_others true ne = elim (is_some (get f w.name)) as (λ b. (b ≡ true → q ≢ w.name) → Others (if b then Remove w.name ∷ [] else [])) [

@@ -7,20 +7,20 @@ use Rattle.outside.specs.Files.{Files}
 use Rattle.outside.specs.Quiet.{Effect, after_all}
 use Rattle.hunk_core.specs.declared.Side.{Side}
 use Rattle.line_list.specs.Lines.{lines}
-use Rattle.file_patch.specs.declared.derived.Target.{Target}
-use Rattle.patch_task.specs.Named.{IsNamed}
-use Rattle.patch_task.proofs.EffectLists.{after_all-append}
-use Rattle.patch_task.specs.Asking.{renames}
-use Rattle.patch_run.specs.OnePatch.{PlainTurn, Tried, bytes_of, lines_in, target_at, written, tried, output_on, is_written, is_removal, written_effects, reject_effects, effects_of, has_rejects, rejects_text, wrote, finished_at}
+use Rattle.read_file_patch.specs.declared.derived.Target.{Target}
+use Rattle.apply_task.specs.Named.{IsNamed}
+use Rattle.apply_task.proofs.EffectLists.{after_all-append}
+use Rattle.apply_task.specs.Asking.{renames}
+use Rattle.patch_run.specs.OnePatch.{PlainContext, Tried, bytes_of, lines_in, target_at, written, tried, output_on, is_written, is_removal, written_effects, reject_effects, effects_of, has_rejects, rejects_text, wrote, finished_at}
 use Rattle.patch_run.specs.Run.{cleared}
 use Rattle.patch_run.specs.Laws.{IsRenamed, IsApart, tried_files}
-use Rattle.patch_outcome.proofs.Writing.{effects_split, wrote_as}
+use Rattle.apply_outcome.proofs.Writing.{effects_split, wrote_as}
 use Rattle.patch_run.proofs.Renaming.{renamed}
 use Rattle.patch_run.proofs.Standing.{others_put, all_stays, cleared_stays, effects_others}
 
 -- ---- one that renames no file
 
-pub others_kept : (t : PlainTurn) (f : Files) (k : ℕ) (side : Side) (name : List ℕ) → renames t.item.patch ≡ false → IsApart name (written t k) → get (tried_files t f k side) name ≡ get f name
+pub others_kept : (t : PlainContext) (f : Files) (k : ℕ) (side : Side) (name : List ℕ) → renames t.item.patch ≡ false → IsApart name (written t k) → get (tried_files t f k side) name ≡ get f name
 others_kept t f k side name stays aside =
     let st = finished_at t f [] k side in
     let s = target_at t.item.targets k in
@@ -32,7 +32,7 @@ others_kept t f k side name stays aside =
 
 -- ---- one that renames a file
 
-wrote_wet : (t : PlainTurn) (f : Files) (w : Target) (x : Tried) → wrote t f w x ≡ true → t.options.dry_run ≡ false
+wrote_wet : (t : PlainContext) (f : Files) (w : Target) (x : Tried) → wrote t f w x ≡ true → t.options.dry_run ≡ false
 unfolding wrote
 wrote_wet t f w x is = by t.options.dry_run (is_written t x) (not (is_removal t x) || is_some (get f w.name)) is
   where
@@ -57,7 +57,7 @@ moving_is true true c one two three = absurd (false≢true (sym two))
 moving_is true false false one two three = absurd (false≢true three)
 moving_is false b c one two three = absurd (false≢true one)
 
-module _ (t : PlainTurn) (f : Files) (s w : Target) (moves : renames t.item.patch ≡ true) (differ : s.name ≢ w.name) (there : is_some (get f s.name) ≡ true) (source : IsNamed s) (named : IsNamed w) (apart_own : w.name ≢ w.reject) (apart_source : s.name ≢ w.reject) where
+module _ (t : PlainContext) (f : Files) (s w : Target) (moves : renames t.item.patch ≡ true) (differ : s.name ≢ w.name) (there : is_some (get f s.name) ≡ true) (source : IsNamed s) (named : IsNamed w) (apart_own : w.name ≢ w.reject) (apart_source : s.name ≢ w.reject) where
   -- whatever else is cleared
   renamed_behind : (x : Tried) (c : Option (List ℕ)) → wrote t f w x ≡ true → IsRenamed (cleared c (after_all (effects_of t f s w x) f)) s w x.output
   renamed_behind x c is =
@@ -83,7 +83,7 @@ module _ (t : PlainTurn) (f : Files) (s w : Target) (moves : renames t.item.patc
             ∙ base.source;
       }
 
-pub renamed_splices : (t : PlainTurn) (f : Files) (k : ℕ) (side : Side) (bytes : List ℕ) → renames t.item.patch ≡ true
+pub renamed_splices : (t : PlainContext) (f : Files) (k : ℕ) (side : Side) (bytes : List ℕ) → renames t.item.patch ≡ true
     → (target_at t.item.targets k).name ≢ (written t k).name → get f (target_at t.item.targets k).name ≡ Some bytes → IsNamed (target_at t.item.targets k) → IsNamed (written t k)
     → (written t k).name ≢ (written t k).reject → (target_at t.item.targets k).name ≢ (written t k).reject
     → wrote t f (written t k) (tried t side (lines bytes)) ≡ true

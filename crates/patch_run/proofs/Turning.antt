@@ -17,18 +17,18 @@ use Rattle.line_store.specs.Store.{Seen, Keeps}
 use Rattle.line_store.specs.declared.fault.OpenFault.{OpenFault}
 use Rattle.line_store.specs.declared.fault.OpenFault.TheVariants as open_fault
 use Rattle.patch_set.specs.declared.set.Row.{Row}
-use Rattle.patch_task.specs.declared.fault.RunFault.{RunFault}
-use Rattle.patch_task.specs.declared.fault.RunFault.TheVariants.{Tree, Write, Scratch, LongLine, FileTooLong, Disagree, Memory}
-use Rattle.patch_start.specs.declared.starting.Decision.{Decision}
-use Rattle.patch_start.specs.declared.starting.Decision.TheVariants.{Skip, Try}
+use Rattle.apply_task.specs.declared.fault.RunFault.{RunFault}
+use Rattle.apply_task.specs.declared.fault.RunFault.TheVariants.{Tree, Write, Scratch, LongLine, FileTooLong, Disagree, Memory}
+use Rattle.apply_start.specs.declared.starting.Decision.{Decision}
+use Rattle.apply_start.specs.declared.starting.Decision.TheVariants.{Skip, Try}
 use Rattle.patch_run.specs.declared.one_patch.Done.{Done}
-use Rattle.patch_run.specs.OnePatch.{PlainTurn, Start, skips, refuses, tries, total, ignored_said, bytes_of, lines_in, start, skipped, finished_at, ending_of, ending}
-use Rattle.patch_start.specs.Devices.{Told, HasRunCause, scratch_with}
-use Rattle.patch_start.specs.Starting.{Starts, IsDecided, IsBrokenOff, said_in, taken_in}
-use Rattle.patch_task.specs.Making.{TidyAfter, UnlessFailed}
+use Rattle.patch_run.specs.OnePatch.{PlainContext, Start, skips, refuses, tries, total, ignored_said, bytes_of, lines_in, start, skipped, finished_at, ending_of, ending}
+use Rattle.apply_start.specs.Devices.{Told, HasRunCause, scratch_with}
+use Rattle.apply_start.specs.Starting.{Starts, IsDecided, IsBrokenOff, said_in, taken_in}
+use Rattle.apply_task.specs.Making.{TidyAfter, UnlessFailed}
 use Rattle.patch_run.specs.Doing.{Stays, QuietAfter, IsPartOf, IsWholeOf, IsDone, IsEnded, IsStopped, IsBroken, IsDeviceFault, IsOrdered, Does, effects_in, said_of}
-use Rattle.patch_task.proofs.EffectLists.{made_both, leaves_after, tells_after}
-use Rattle.patch_task.proofs.Tidy.{tidy_both, untouched_tidy, unless_held, unless_then}
+use Rattle.apply_task.proofs.EffectLists.{made_both, leaves_after, tells_after}
+use Rattle.apply_task.proofs.Tidy.{tidy_both, untouched_tidy, unless_held, unless_then}
 use Rattle.patch_run.proofs.Applying.{unmade, ordered_after, ordered_behind}
 use Rattle.patch_run.proofs.Going.{Goes, plan_both, cause_then, told_then}
 
@@ -41,7 +41,7 @@ untouched_made {u = u} same quiet = record {
 }
 
 -- nothing but the start has happened
-part_begun : {u v : TreeView} {c d : SinkView} (t : PlainTurn) (f : Files) (s : Start) → IsUntouched u v → IsQuiet u → ReceivesPart c d (said_in s) → IsPartOf u v c d (effects_in (ending_of t f s)) (said_of (ending_of t f s))
+part_begun : {u v : TreeView} {c d : SinkView} (t : PlainContext) (f : Files) (s : Start) → IsUntouched u v → IsQuiet u → ReceivesPart c d (said_in s) → IsPartOf u v c d (effects_in (ending_of t f s)) (said_of (ending_of t f s))
 part_begun {u = u} {v = v} {c = c} {d = d} t f s same quiet said =
     let made = untouched_made same quiet in
     let es = effects_in (ending_of t f s) in
@@ -55,12 +55,12 @@ part_begun {u = u} {v = v} {c = c} {d = d} t f s same quiet said =
       ] said;
     }
 
-stops : {u v : TreeView} {c d : SinkView} (t : PlainTurn) (f : Files) (s : Start) (fault : OpenFault) → IsUntouched u v → IsQuiet u → u.told ≡ Some f → IsWholeOf u v c d [] (said_in s) f → s ≡ refuses (said_in s) fault → IsStopped u v c d f (ending_of t f s) fault
+stops : {u v : TreeView} {c d : SinkView} (t : PlainContext) (f : Files) (s : Start) (fault : OpenFault) → IsUntouched u v → IsQuiet u → u.told ≡ Some f → IsWholeOf u v c d [] (said_in s) f → s ≡ refuses (said_in s) fault → IsStopped u v c d f (ending_of t f s) fault
 stops t f (skips said row taken) fault same quiet told whole is = absurd (cc)
 stops t f (refuses said other) fault same quiet told whole is = (ap (λ (x : Start). ending_of t f x) is, whole)
 stops t f (tries said place side) fault same quiet told whole is = absurd (cc)
 
-module _ (t : PlainTurn) (u v : TreeView) (a b : Seen) (c d : SinkView) (scratch_after : ℕ → List ℕ → Option (List ℕ) → Option (List ℕ)) (quiet : IsQuiet u) where
+module _ (t : PlainContext) (u v : TreeView) (a b : Seen) (c d : SinkView) (scratch_after : ℕ → List ℕ → Option (List ℕ) → Option (List ℕ)) (quiet : IsQuiet u) where
   abbrev pub Begins : Result Decision RunFault → Type 0
   Begins r = Starts u v a b c d scratch_after r (bytes_of t) (start t)
 

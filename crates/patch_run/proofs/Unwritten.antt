@@ -12,13 +12,13 @@ use Rattle.outside.specs.Quiet.Effect.{Put}
 use Rattle.hunk_core.specs.declared.Side.{Side}
 use Rattle.hunk_core.specs.declared.Verdict.{Verdict}
 use Rattle.patch_options.specs.PlainJob.{PlainOptions}
-use Rattle.file_patch.specs.declared.derived.Target.{Target}
-use Rattle.patch_task.specs.TargetEffects.{put_if, backup_effects}
-use Rattle.patch_task.specs.Asking.{renames}
-use Rattle.patch_run.specs.OnePatch.{Item, PlainTurn, Start, skips, refuses, tries, Ending, ended, stopped, bytes_of, lines_in, target_at, written, tried, wrote, finished_at, mark_of, has_name, was_written, is_backup_apart, is_backup_asked, is_backup_due, start, ending_of, ending}
+use Rattle.read_file_patch.specs.declared.derived.Target.{Target}
+use Rattle.apply_task.specs.TargetEffects.{put_if, backup_effects}
+use Rattle.apply_task.specs.Asking.{renames}
+use Rattle.patch_run.specs.OnePatch.{Item, PlainContext, Start, skips, refuses, tries, Ending, ended, stopped, bytes_of, lines_in, target_at, written, tried, wrote, finished_at, mark_of, has_name, was_written, is_backup_apart, is_backup_asked, is_backup_due, start, ending_of, ending}
 use Rattle.patch_run.specs.Run.{Run, begun, files_after, turn_of, with_ending, if_going, with_item, run_on, run_of}
 use Rattle.patch_run.specs.Laws.{targets_in, is_beside}
-use Rattle.patch_start.proofs.Places.{IsTriedWithin, start_within}
+use Rattle.apply_start.proofs.Places.{IsTriedWithin, start_within}
 use Rattle.patch_run.proofs.BackedUp.{mark_named, run_keeps}
 use Rattle.patch_run.proofs.Naming.{IsNoneOf, none_at, none_written, none_first, written_is, renamed_is}
 use Rattle.patch_run.proofs.Standing.{all_stays, cleared_stays, effects_others}
@@ -38,7 +38,7 @@ module _ (q : List ℕ) (lasting : is_temp q ≡ false) where
 
   -- ---- one file patch
 
-  tried_keeps : (t : PlainTurn) (f : Files) (said : List ℕ) (place : ℕ) (side : Side) → place < length t.item.targets → IsNoneOf beside t.output t.item
+  tried_keeps : (t : PlainContext) (f : Files) (said : List ℕ) (place : ℕ) (side : Side) → place < length t.item.targets → IsNoneOf beside t.output t.item
       → has_name q (mark_of t (finished_at t f said place side).row (finished_at t f said place side).verdicts) ≡ false → get (files_after (finished_at t f said place side) f) q ≡ get f q
   tried_keeps t f said place side less none unmarked =
       let st = finished_at t f said place side in
@@ -53,16 +53,16 @@ module _ (q : List ℕ) (lasting : is_temp q ≡ false) where
       ∙ all_stays q lasting st.effects f (effects_others q t f s w x (unlike q w.backup of_w.0) (λ moves. unlike q s.backup of_s.0) (unlike q w.reject of_w.1) own source)
 
   -- a name that the mark of an ending hasn't, stands for what it stood for
-  abbrev KeepsName : PlainTurn → Files → Ending → Type 0
+  abbrev KeepsName : PlainContext → Files → Ending → Type 0
   KeepsName t f (ended st) = has_name q (mark_of t st.row st.verdicts) ≡ false → get (files_after st f) q ≡ get f q
   KeepsName t f (stopped said fault) = Unit {0}
 
-  start_keeps : (t : PlainTurn) (f : Files) (s : Start) → IsTriedWithin (length t.item.targets) s → IsNoneOf beside t.output t.item → KeepsName t f (ending_of t f s)
+  start_keeps : (t : PlainContext) (f : Files) (s : Start) → IsTriedWithin (length t.item.targets) s → IsNoneOf beside t.output t.item → KeepsName t f (ending_of t f s)
   start_keeps t f (skips said row taken) less none = λ unmarked. refl
   start_keeps t f (refuses said fault) less none = tt
   start_keeps t f (tries said place side) less none = tried_keeps t f said place side less none
 
-  ending_keeps : (t : PlainTurn) (f : Files) → IsNoneOf beside t.output t.item → KeepsName t f (ending t f)
+  ending_keeps : (t : PlainContext) (f : Files) → IsNoneOf beside t.output t.item → KeepsName t f (ending t f)
   unfolding ending
   ending_keeps t f none = start_keeps t f (start t f) (start_within t f) none
 
@@ -71,7 +71,7 @@ module _ (q : List ℕ) (lasting : is_temp q ≡ false) where
   abbrev Keeps : Run → Run → Type 0
   Keeps r s = was_written s.past q ≡ false → get s.files q ≡ get r.files q
 
-  with_keeps : (t : PlainTurn) (r : Run) (e : Ending) → KeepsName t r.files e → Keeps r (with_ending t r e)
+  with_keeps : (t : PlainContext) (r : Run) (e : Ending) → KeepsName t r.files e → Keeps r (with_ending t r e)
   with_keeps t r (ended st) keeps unwritten =
       let m = mark_of t st.row st.verdicts in
       let parts = or_parts (was_written r.past q) (has_name q m || false) (sym (list_any-append (has_name q) r.past (m ∷ [])) ∙ unwritten) in

@@ -5,8 +5,8 @@ use Rattle.outside.specs.TreeView.{TreeView}
 use Rattle.outside.specs.SinkView.{SinkView, Receives}
 use Rattle.outside.specs.Quiet.{after_all}
 use Rattle.patch_run.specs.Applied.{Receipt}
-use Rattle.run_answers.specs.declared.why.Why.{Why}
-use Rattle.run_answers.specs.declared.why.Why.TheVariants.{Done, Rejected}
+use Rattle.cli_run_answers.specs.declared.why.Why.{Why}
+use Rattle.cli_run_answers.specs.declared.why.Why.TheVariants.{Done, Rejected}
 use Rattle.patch_run.specs.Outcome.{Outcome}
 
 -- the answer of a run that came to its end, or stopped

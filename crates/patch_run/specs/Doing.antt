@@ -10,8 +10,8 @@ use Rattle.line_store.specs.Store.{Seen}
 use Rattle.line_store.specs.Taking.{KeepsPlan}
 use Rattle.line_store.specs.declared.fault.OpenFault.{OpenFault}
 use Rattle.line_store.specs.declared.fault.OpenFault.TheVariants as open_fault
-use Rattle.patch_task.specs.declared.fault.RunFault.{RunFault}
-use Rattle.patch_task.specs.declared.fault.RunFault.TheVariants.{Tree, Write, Scratch, LongLine, FileTooLong, Disagree, Memory}
+use Rattle.apply_task.specs.declared.fault.RunFault.{RunFault}
+use Rattle.apply_task.specs.declared.fault.RunFault.TheVariants.{Tree, Write, Scratch, LongLine, FileTooLong, Disagree, Memory}
 use Rattle.std.specs.FinMap.{get}
 use Rattle.outside.specs.TreeView as tree
 use Rattle.outside.specs.SinkView as sink
@@ -19,24 +19,24 @@ use Rattle.line_store.specs.Store as store
 use Rattle.outside.specs.Quiet.{Holds, after_all}
 use Rattle.hunk_core.specs.declared.Side.{Side}
 use Rattle.hunk_apply.specs.declared.Session.{Session}
-use Rattle.file_patch.specs.declared.derived.Target.{Target}
+use Rattle.read_file_patch.specs.declared.derived.Target.{Target}
 use Rattle.patch_run.specs.declared.one_patch.Done.{Done}
-use Rattle.patch_task.specs.declared.placed.Made.{Made}
-use Rattle.patch_task.specs.Outputs.{IsSession}
-use Rattle.patch_task.specs.Making.{IsGone, IsPart, TidyAfter, UnlessFailed}
-use Rattle.patch_run.specs.OnePatch.{Item, PlainTurn, Tried, Story, Ending, ended, stopped, effects_of, tried_said, wrote, ending}
+use Rattle.apply_task.specs.declared.placed.Made.{Made}
+use Rattle.apply_task.specs.Outputs.{IsSession}
+use Rattle.apply_task.specs.Making.{IsGone, IsPart, TidyAfter, UnlessFailed}
+use Rattle.patch_run.specs.OnePatch.{Item, PlainContext, Tried, Story, Ending, ended, stopped, effects_of, tried_said, wrote, ending}
 use Rattle.hunk_core.specs.declared.Verdict.TheVariants.{Ignored, Nowhere}
-use Rattle.patch_task.specs.Outputs.{verdicts_over}
+use Rattle.apply_task.specs.Outputs.{verdicts_over}
 use Rattle.patch_options.specs.PlainJob.{PlainOptions}
-use Rattle.file_patch.specs.declared.FilePatch.{FilePatch}
-use Rattle.file_patch.specs.PlainPatch.{patch_of, row_count}
+use Rattle.read_file_patch.specs.declared.FilePatch.{FilePatch}
+use Rattle.read_file_patch.specs.PlainPatch.{patch_of, row_count}
 use Rattle.patch_set.specs.declared.set.Row.{Row}
 use Rattle.patch_set.specs.SetView.{SetView}
 use Rattle.patch_run.specs.Applied.{Receipt}
-use Rattle.patch_outcome.specs.Ready.{rows_in}
+use Rattle.apply_outcome.specs.Ready.{rows_in}
 use Rattle.patch_run.specs.Refused.{saves_refused}
 use Rattle.patch_run.specs.Run.{Run, files_after, turn_of, run_of}
-use Rattle.patch_start.specs.Devices.{Told, HasRunCause, scratch_with}
+use Rattle.apply_start.specs.Devices.{Told, HasRunCause, scratch_with}
 
 -- what stays of the three devices over any part of a run, and what a fault says of them
 pub record Stays {R : Type 0} (u w : TreeView) (a b : Seen) (c d : SinkView) (result : Result R RunFault) : Type 0 where
@@ -157,7 +157,7 @@ pub record IsOutcome (dry : Bool) (u : TreeView) (session : Session) (temp : Lis
   pub holds : dry ≡ false → Holds u temp x.output
 
 -- all is said, the effects are made whole, and what was done is what they are; the temporary is gone, but in a dry run
-pub record IsMadeWhole (t : PlainTurn) (f : Files) (source target : Target) (x : Tried) (done : Made) (u w : TreeView) (c d : SinkView) : Type 0 where
+pub record IsMadeWhole (t : PlainContext) (f : Files) (source target : Target) (x : Tried) (done : Made) (u w : TreeView) (c d : SinkView) : Type 0 where
   pub made : HasMade u w (effects_of t f source target x)
   pub said : Receives c d (tried_said t target x)
   pub exact : (g : Files) → w.told ≡ Some g → (q : List ℕ) → q ≢ target.temp → get g q ≡ get (after_all (effects_of t f source target x) f) q
@@ -263,7 +263,7 @@ abbrev pub IsUntold : TreeView → Type 0
 IsUntold u = (f : Files) → u.told ≡ Some f → ⊥
 
 -- a file patch was refused for what is in its way: it is bad, its target isn't written, and there is one effect at most, its reject file where it has one
-pub record IsRefused (t : PlainTurn) (done : Done) : Type 0 where
+pub record IsRefused (t : PlainContext) (done : Done) : Type 0 where
   pub bad : done.is_bad ≡ true
   pub wrote : done.row.wrote ≡ false
   pub few : done.effects ≤ 1

@@ -12,12 +12,12 @@ use Rattle.patch_options.specs.PlainJob.{PlainOptions}
 use Rattle.name_choice.specs.Choice.{side_of}
 use Rattle.name_choice.specs.declared.Choice.{Choice}
 use Rattle.name_choice.specs.declared.Choice.TheVariants.{Existing, Create, Nothing}
-use Rattle.file_patch.specs.PlainPatch.{PlainPatch}
-use Rattle.file_patch.specs.declared.derived.Target.{Target}
+use Rattle.read_file_patch.specs.PlainPatch.{PlainPatch}
+use Rattle.read_file_patch.specs.declared.derived.Target.{Target}
 use Rattle.patch_set.specs.declared.set.Row.{Row}
-use Rattle.patch_task.specs.Asking.{renames}
-use Rattle.patch_task.specs.Kinds.{is_meant, is_link}
-use Rattle.patch_run.specs.OnePatch.{Item, Mark, PlainTurn, Start, skips, refuses, tries, Ending, ended, stopped, target_at, written_by, renamed_by, bytes_of, lines_in, first_hunk, is_reversed, turns_round, lacks_word, refusal_of, unfit, is_needed, is_name, finished_at}
+use Rattle.apply_task.specs.Asking.{renames}
+use Rattle.apply_task.specs.Kinds.{is_meant, is_link}
+use Rattle.patch_run.specs.OnePatch.{Item, PastFilePatch, PlainContext, Start, skips, refuses, tries, Ending, ended, stopped, target_at, written_by, renamed_by, bytes_of, lines_in, first_hunk, is_reversed, turns_round, lacks_word, refusal_of, unfit, is_needed, is_name, finished_at}
 use Rattle.patch_run.specs.Run.{files_after}
 
 -- ---- when a file patch is skipped
@@ -29,41 +29,41 @@ IsSkip (refuses said fault) = ⊥
 IsSkip (tries said place side) = ⊥
 
 -- the file of this place can be taken: it isn't there, or isn't too long
-abbrev pub is_taken : PlainTurn → Files → ℕ → Bool
+abbrev pub is_taken : PlainContext → Files → ℕ → Bool
 is_taken t files k = is_none (refusal_of t.options.buffer (bytes_of t files k))
 
 -- its first hunk looks reversed in that file
-abbrev pub is_reversed_at : PlainTurn → Files → ℕ → Bool
+abbrev pub is_reversed_at : PlainContext → Files → ℕ → Bool
 is_reversed_at t files k = is_reversed t.options (lines_in (bytes_of t files k)) (side_of t.options.reverse) (first_hunk t.item.patch.change)
 
 -- it looks as if it was applied before: it misfits its file, or its first hunk looks reversed in a file that can be taken
-abbrev pub looks_applied : PlainTurn → Files → ℕ → Bool
+abbrev pub looks_applied : PlainContext → Files → ℕ → Bool
 looks_applied t files k = is_some (unfit t files k (side_of t.options.reverse)) || (is_taken t files k && is_reversed_at t files k)
 
 -- a file that can be taken lacks the word of its `Prereq:` line
-abbrev pub is_unready : PlainTurn → Files → ℕ → Bool
+abbrev pub is_unready : PlainContext → Files → ℕ → Bool
 is_unready t files k = is_taken t files k && lacks_word t.item.patch.header.prereq (bytes_of t files k)
 
 -- a file with bytes, which a file patch of the text renames or copies, stands where a file would be renamed or copied to
-abbrev pub is_over_needed : PlainTurn → Files → ℕ → Bool
+abbrev pub is_over_needed : PlainContext → Files → ℕ → Bool
 is_over_needed t files k = is_some (unfit t files k (side_of t.options.reverse)) && is_needed t k
 
 -- it is skipped there, with `-f` too; without `-f` also where it looks applied and isn't turned round, or the word is missing
-abbrev pub is_unsuited_if_meant : PlainTurn → Files → ℕ → Bool
+abbrev pub is_unsuited_if_meant : PlainContext → Files → ℕ → Bool
 is_unsuited_if_meant t files k = is_over_needed t files k || (not t.options.force && ((looks_applied t files k && not (turns_round t)) || is_unready t files k))
 
 -- and where its modes ask for what isn't done
-abbrev pub is_unsuited : PlainTurn → Files → ℕ → Bool
+abbrev pub is_unsuited : PlainContext → Files → ℕ → Bool
 is_unsuited t files k = not (is_meant t.item.patch) || is_unsuited_if_meant t files k
 
 -- a name results, and the file at it would be renamed or copied there
-abbrev pub goes_over_needed : PlainTurn → Files → Choice → Bool
+abbrev pub goes_over_needed : PlainContext → Files → Choice → Bool
 goes_over_needed t files (Existing k) = is_over_needed t files k
 goes_over_needed t files (Create k) = is_over_needed t files k
 goes_over_needed t files Nothing = false
 
 -- it is skipped where no name results, and where it doesn't suit the chosen file
-abbrev pub is_skipped : PlainTurn → Files → Choice → Bool
+abbrev pub is_skipped : PlainContext → Files → Choice → Bool
 is_skipped t files (Existing k) = is_unsuited t files k
 is_skipped t files (Create k) = is_unsuited t files k
 is_skipped t files Nothing = true
@@ -76,7 +76,7 @@ IsIgnored (stopped said fault) = ⊥
 -- ---- what a file patch makes of the files
 
 -- it made or took away this name, as its target or from a file that it renamed
-abbrev pub HasWritten : PlainTurn → Ending → List ℕ → Type 0
+abbrev pub HasWritten : PlainContext → Ending → List ℕ → Type 0
 HasWritten t (ended story) name = (story.row.wrote ≡ true) × ((w : Target) × (((written_by t story.row ≡ Some w) ⊎ (renamed_by t story.row ≡ Some w)) × (w.name ≡ name)))
 HasWritten t (stopped said fault) name = ⊥
 
@@ -86,7 +86,7 @@ pub record IsRenamed (files : Files) (s w : Target) (bytes : List ℕ) : Type 0 
   pub source : get files s.name ≡ None
 
 -- the files behind a file patch whose hunks were tried at this place and from this side
-abbrev pub tried_files : PlainTurn → Files → ℕ → Side → Files
+abbrev pub tried_files : PlainContext → Files → ℕ → Side → Files
 tried_files t files k side = files_after (finished_at t files [] k side) files
 
 -- no file is made at this name for the target: it isn't temporary, nor the target's own name, nor that of its backup or reject file
@@ -109,10 +109,10 @@ abbrev pub keeps_files : PlainOptions → PlainPatch → Bool
 keeps_files o p = is_some o.define || (o.posix && (not o.remove_empty && not (is_link p)))
 
 -- the name is that of the file that the file patch renames
-abbrev pub IsSource : PlainTurn → Row → List ℕ → Type 0
+abbrev pub IsSource : PlainContext → Row → List ℕ → Type 0
 IsSource t r name = (renames t.item.patch ≡ true) × ((k : ℕ) × ((r.target ≡ Some k) × (name ≡ (target_at t.item.targets k).name)))
 
-abbrev pub TakesItsSource : PlainTurn → Ending → Type 0
+abbrev pub TakesItsSource : PlainContext → Ending → Type 0
 TakesItsSource t (ended story) = AllByRecursion (IsSource t story.row) (removed_in story.effects)
 TakesItsSource t (stopped said fault) = Unit {0}
 
@@ -131,5 +131,5 @@ abbrev pub is_kept_for : List ℕ → List Target → Bool
 is_kept_for name targets = list_any (λ w. bytes_eq name w.name || bytes_eq name w.backup) targets
 
 -- rejects of it go to this file
-abbrev pub rejects_to : List ℕ → Mark → Bool
+abbrev pub rejects_to : List ℕ → PastFilePatch → Bool
 rejects_to name m = is_name name (option_map (λ r. r.0) m.rejected)

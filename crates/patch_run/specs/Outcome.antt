@@ -3,22 +3,22 @@ use Rattle.std.specs.Prelude.{ℕ, List, [], length, map, Bool, if◌then◌else
 use Rattle.outside.specs.Files.{Files}
 use Rattle.outside.specs.Quiet.{Effect}
 use Rattle.line_store.specs.declared.fault.OpenFault.{OpenFault}
-use Rattle.file_patch.specs.PlainPatch.{PlainPatch}
-use Rattle.file_patch.specs.declared.derived.Target.{Target}
+use Rattle.read_file_patch.specs.PlainPatch.{PlainPatch}
+use Rattle.read_file_patch.specs.declared.derived.Target.{Target}
 use Rattle.patch_options.specs.PlainJob.{PlainOptions}
 use Rattle.patch_options.specs.declared.options.PlanKind.{PlanKind}
 use Rattle.patch_set.specs.Asked.{ways_of}
 use Rattle.patch_set.specs.Named.{known_names, targets_of, output_of}
 use Rattle.patch_set.specs.declared.skipped.BinaryChange.{BinaryChange}
 use Rattle.patch_set.specs.Skipped.{skipped_changes}
-use Rattle.patch_task.specs.Asking.{moves}
-use Rattle.patch_task.specs.Faults.{of_open}
+use Rattle.apply_task.specs.Asking.{moves}
+use Rattle.apply_task.specs.Faults.{of_open}
 use Rattle.patch_run.specs.Applied.{Receipt}
 use Rattle.patch_run.specs.OnePatch.{Item}
 use Rattle.patch_run.specs.Run.{Run, run_of}
-use Rattle.run_answers.specs.declared.why.Why.{Why}
-use Rattle.run_answers.specs.declared.why.Why.TheVariants.{Done, Rejected}
-use Rattle.run_answers.specs.Answers.{of_run}
+use Rattle.cli_run_answers.specs.declared.why.Why.{Why}
+use Rattle.cli_run_answers.specs.declared.why.Why.TheVariants.{Done, Rejected}
+use Rattle.cli_run_answers.specs.Answers.{of_run}
 
 pub record Outcome : Type 0 where
   pub why : Why

@@ -6,10 +6,10 @@ use Rattle.outside.specs.Files.{Files, temp_of}
 use Rattle.outside.specs.Quiet.{Effect, after_all}
 use Rattle.line_store.specs.declared.fault.OpenFault.{OpenFault}
 use Rattle.patch_options.specs.PlainJob.{PlainOptions}
-use Rattle.file_patch.specs.declared.derived.Target.{Target}
+use Rattle.read_file_patch.specs.declared.derived.Target.{Target}
 use Rattle.patch_set.specs.SetView.{SetView}
-pub use Rattle.patch_task.specs.Ready.{item_of, moved_in}
-use Rattle.patch_run.specs.OnePatch.{Item, Mark, PlainTurn, Story, Ending, ended, stopped, mark_of, ending}
+pub use Rattle.apply_task.specs.Ready.{item_of, moved_in}
+use Rattle.patch_run.specs.OnePatch.{Item, PastFilePatch, PlainContext, Story, Ending, ended, stopped, mark_of, ending}
 
 -- a run so far
 pub record Run : Type 0 where
@@ -18,7 +18,7 @@ pub record Run : Type 0 where
   pub effects : List Effect
   -- what each file patch did, and their marks
   pub stories : List Story
-  pub past : List Mark
+  pub past : List PastFilePatch
   pub is_bad : Bool
   -- the bytes of the files that the plan took, the last of them last
   pub taken : List (List ℕ)
@@ -38,11 +38,11 @@ abbrev pub files_after : Story → Files → Files
 files_after s files = cleared s.cleared (after_all s.effects files)
 
 -- a file patch whose turn it is in a run
-abbrev pub turn_of : PlainOptions → Option Target → Run → Item → PlainTurn
+abbrev pub turn_of : PlainOptions → Option Target → Run → Item → PlainContext
 turn_of o output r i = record { options = o; output = output; item = i; past = r.past }
 
 -- a run with one file patch more
-abbrev pub with_story : PlainTurn → Run → Story → Run
+abbrev pub with_story : PlainContext → Run → Story → Run
 with_story t r s = record {
   files = files_after s r.files;
   said = r.said ++ s.said;
@@ -57,7 +57,7 @@ with_story t r s = record {
 abbrev pub with_stop : Run → List ℕ → OpenFault → Run
 with_stop r said fault = record { files = r.files; said = r.said ++ said; effects = r.effects; stories = r.stories; past = r.past; is_bad = r.is_bad; taken = r.taken; stop = Some fault }
 
-abbrev pub with_ending : PlainTurn → Run → Ending → Run
+abbrev pub with_ending : PlainContext → Run → Ending → Run
 with_ending t r (ended s) = with_story t r s
 with_ending t r (stopped said fault) = with_stop r said fault
 

@@ -1,10 +1,10 @@
 //! How a run ends.
 ghost use Rattle.std.specs.Prelude.{◌≡◌, Ok};
-ghost use Rattle.run_answers.specs.Answers.{exit_status};
+ghost use Rattle.cli_run_answers.specs.Answers.{exit_status};
 ghost use Rattle.patch_run.specs.Answer.{why_of, receipt_of};
 
 use crate::Applied;
-use run_answers::Why;
+use cli_run_answers::Why;
 
 /// How a run ends.
 #[derive(Drop)]

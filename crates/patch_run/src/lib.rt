@@ -1,5 +1,5 @@
 //! What one run of `patch` does with the file patches of a set, with the plan that the options name, and what it comes to, for
-//! every tool that applies a patch. Stands on `patch_start`, `patch_outcome` and the plans. Begin with `src/set.rt`, then
+//! every tool that applies a patch. Stands on `apply_start`, `apply_outcome` and the plans. Begin with `src/set.rt`, then
 //! `specs/Run.antt`.
 #![tactic(auto)]
 

@@ -8,30 +8,30 @@ ghost use Rattle.outside.specs.Calls.{IsThere, IsUntouched};
 ghost use Rattle.outside.specs.Quiet.{IsQuiet};
 ghost use Rattle.hunk_core.specs.declared.Verdict.TheVariants.{Ignored, Nowhere};
 ghost use Rattle.line_store.specs.Store.{Keeps};
-ghost use Rattle.patch_task.specs.Outputs.{verdicts_over};
+ghost use Rattle.apply_task.specs.Outputs.{verdicts_over};
 ghost use Rattle.hunk_apply.specs.Session.{IsTried};
-ghost use Rattle.file_patch.specs.PlainPatch.{row_count};
+ghost use Rattle.read_file_patch.specs.PlainPatch.{row_count};
 ghost use Rattle.patch_run.specs.OnePatch.{Tried, ignored_said, bytes_of, lines_in, effects_of, tried_said, some_failed, is_kept, fails_first, finished_at, written, ending};
 ghost use Rattle.patch_run.specs.Refused.{saves_refused, PutsRejects};
-ghost use Rattle.patch_task.specs.Outputs.{IsSession};
-ghost use Rattle.patch_start.specs.Trying.{IsBegun};
+ghost use Rattle.apply_task.specs.Outputs.{IsSession};
+ghost use Rattle.apply_start.specs.Trying.{IsBegun};
 ghost use Rattle.patch_run.specs.Doing.{Does, Stays, QuietAfter, IsDone, IsPartOf, IsDeviceFault, HasEndCause, IsOutcome, IsMadeWhole, IsOrdered, IsUntold, IsRefused, ArePlaced};
-ghost use Rattle.patch_task.specs.Making.{IsGone, IsTidy, TidyAfter};
-ghost use Rattle.patch_start.specs.Devices.{Told};
-ghost use Rattle.patch_task.specs.Named.{IsNamed};
-ghost use Rattle.patch_outcome.specs.TurnView.{plain_turn, IsTurn};
+ghost use Rattle.apply_task.specs.Making.{IsGone, IsTidy, TidyAfter};
+ghost use Rattle.apply_start.specs.Devices.{Told};
+ghost use Rattle.apply_task.specs.Named.{IsNamed};
+ghost use Rattle.apply_outcome.specs.ContextView.{plain_context, IsContext};
 
 use crate::refusing::refuse_hunks;
 use crate::trying::{refuse_tried, try_free};
-use file_patch::Target;
+use apply_outcome::{FilePatchContext, is_kept, make_effects, tell};
+use apply_start::{Attempt, Decision, fails_first, start};
+use apply_task::{Made, RunFault, chosen, is_bare, written};
 use hunk_apply::Session;
 use hunk_core::{Side, Verdict};
 use line_store::{LineStore, Plan};
 use outside::{Failed, Sink, Tree};
-use patch_outcome::{Turn, is_kept, make_effects, tell};
 use patch_set::Row;
-use patch_start::{Attempt, Decision, fails_first, start};
-use patch_task::{Made, RunFault, chosen, is_bare, written};
+use read_file_patch::Target;
 use say_text::say_ignored;
 
 /// What became of a file patch.
@@ -47,17 +47,17 @@ pub struct Done {
 
 /// Carries out one file patch, and says in a row for each of its hunks what became of it.
 pub fn apply_one<P: Plan, T: Tree, O: Sink>(
-    turn: &Turn<'_>,
+    turn: &FilePatchContext<'_>,
     verdicts: &mut [Verdict],
     plan: &mut P,
     tree: &mut T,
     out: &mut O,
 ) -> Result<Done, RunFault>
-    requires turn { IsTurn turn.now }
+    requires turn { IsContext turn.now }
     requires size { (P.seen plan.old).size ≡ turn.now.task.options.now.buffer }
     requires rows { length verdicts.old ≡ row_count turn.now.task.patch.now.change }
     requires quiet { IsQuiet (T.view tree.old) }
-    ensures does { Does (T.view tree.old) (T.view tree.new) (P.seen plan.old) (P.seen plan.new) (O.view out.old) (O.view out.new) P.scratch_after result verdicts.new (ending (plain_turn turn.now)) }
+    ensures does { Does (T.view tree.old) (T.view tree.new) (P.seen plan.old) (P.seen plan.new) (O.view out.old) (O.view out.new) P.scratch_after result verdicts.new (ending (plain_context turn.now)) }
     ensures rest { O.same_rest out.old out.new }
     ensures dry { turn.now.task.options.now.dry_run ≡ true → IsUntouched (T.view tree.old) (T.view tree.new) }
     ensures rows { length verdicts.new ≡ length verdicts.old }
@@ -66,7 +66,7 @@ pub fn apply_one<P: Plan, T: Tree, O: Sink>(
     // Whatever the tree tells, hunks are placed only on lines that the plan lends; and a file patch that is refused is bad, and
     // writes nothing but its rejects.
     ensures placed { IfOk result (λ done. (lines : List (List ℕ)) → (P.seen plan.new).told ≡ Some lines
-        → ArePlaced (IsUntold (T.view tree.old) × IsRefused (plain_turn turn.now) done) (length verdicts.old) verdicts.new (verdicts_over (plain_turn turn.now).options done.row.side (plain_turn turn.now).item.patch lines)) }
+        → ArePlaced (IsUntold (T.view tree.old) × IsRefused (plain_context turn.now) done) (length verdicts.old) verdicts.new (verdicts_over (plain_context turn.now).options done.row.side (plain_context turn.now).item.patch lines)) }
 {
     match start(&turn.task, plan, tree, out)? {
         Decision::Skip(row) => skip(turn, row, verdicts, out),
@@ -77,14 +77,14 @@ pub fn apply_one<P: Plan, T: Tree, O: Sink>(
 
 /// All hunks are ignored.
 fn skip<O: Sink>(
-    turn: &Turn<'_>,
+    turn: &FilePatchContext<'_>,
     row: Row,
     verdicts: &mut [Verdict],
     out: &mut O,
 ) -> Result<Done, RunFault>
-    requires turn { IsTurn turn.now }
+    requires turn { IsContext turn.now }
     requires rows { length verdicts.old ≡ row_count turn.now.task.patch.now.change }
-    ensures writes { Writes (O.view out.old) (O.view out.new) result (ignored_said (plain_turn turn.now)) }
+    ensures writes { Writes (O.view out.old) (O.view out.new) result (ignored_said (plain_context turn.now)) }
     ensures fault { IfErr result (λ e. e ≡ RunFault.Write) }
     ensures rest { O.same_rest out.old out.new }
     ensures ignored { verdicts.new ≡ replicate (length verdicts.old) Ignored }
@@ -108,14 +108,14 @@ fn unplaced(row: Row, effects: u64) -> Done
 
 /// Something is in its way: no hunk has a place, and all go to the reject file.
 pub fn refuse<T: Tree, O: Sink>(
-    turn: &Turn<'_>,
+    turn: &FilePatchContext<'_>,
     place: u32,
     side: Side,
     verdicts: &mut [Verdict],
     tree: &mut T,
     out: &mut O,
 ) -> Result<Done, RunFault>
-    requires turn { IsTurn turn.now }
+    requires turn { IsContext turn.now }
     requires within { place < length turn.now.task.patch.now.targets.items }
     requires rows { length verdicts.old ≡ row_count turn.now.task.patch.now.change }
     requires quiet { IsQuiet (T.view tree.old) }
@@ -128,9 +128,9 @@ pub fn refuse<T: Tree, O: Sink>(
     ensures dry { turn.now.task.options.now.dry_run ≡ true → IsUntouched (T.view tree.old) (T.view tree.new) }
     ensures nowhere { verdicts.new ≡ replicate (length verdicts.old) Nowhere }
     ensures row { IfOk result (λ done. done.row ≡ record { side = side; target = Some place; wrote = false }) }
-    ensures put { IfOk result (λ done. done.effects ≡ 1 → PutsRejects (T.view tree.old) (T.view tree.new) (plain_turn turn.now) (written (plain_turn turn.now) place) side verdicts.new) }
-    ensures due { IfOk result (λ done. (f : Files) → (T.view tree.old).told ≡ Some f → done.effects ≡ (if saves_refused (plain_turn turn.now) then 1 else 0)) }
-    ensures refused { IfOk result (IsRefused (plain_turn turn.now)) }
+    ensures put { IfOk result (λ done. done.effects ≡ 1 → PutsRejects (T.view tree.old) (T.view tree.new) (plain_context turn.now) (written (plain_context turn.now) place) side verdicts.new) }
+    ensures due { IfOk result (λ done. (f : Files) → (T.view tree.old).told ≡ Some f → done.effects ≡ (if saves_refused (plain_context turn.now) then 1 else 0)) }
+    ensures refused { IfOk result (IsRefused (plain_context turn.now)) }
     ensures unsaved { IfOk result (λ done. done.effects ≡ 0 → IsUntouched (T.view tree.old) (T.view tree.new)) }
 {
     verdicts.fill(Verdict::Nowhere);
@@ -155,9 +155,9 @@ fn done_refused(place: u32, side: Side, saved: bool) -> Done
 }
 
 /// Says that all hunks are ignored, where there is one.
-fn tell_ignored<O: Sink>(turn: &Turn<'_>, out: &mut O) -> Result<(), Failed>
-    requires turn { IsTurn turn.now }
-    ensures writes { Writes (O.view out.old) (O.view out.new) result (ignored_said (plain_turn turn.now)) }
+fn tell_ignored<O: Sink>(turn: &FilePatchContext<'_>, out: &mut O) -> Result<(), Failed>
+    requires turn { IsContext turn.now }
+    ensures writes { Writes (O.view out.old) (O.view out.new) result (ignored_said (plain_context turn.now)) }
     ensures rest { O.same_rest out.old out.new }
 {
     if is_bare(turn.task.patch) {
@@ -168,7 +168,7 @@ fn tell_ignored<O: Sink>(turn: &Turn<'_>, out: &mut O) -> Result<(), Failed>
 
 /// Tries the hunks on the lines that were taken, says what came of them, and makes the effects.
 fn try_at<P: LineStore, T: Tree, O: Sink>(
-    turn: &Turn<'_>,
+    turn: &FilePatchContext<'_>,
     place: u32,
     side: Side,
     verdicts: &mut [Verdict],
@@ -176,7 +176,7 @@ fn try_at<P: LineStore, T: Tree, O: Sink>(
     tree: &mut T,
     out: &mut O,
 ) -> Result<Done, RunFault>
-    requires turn { IsTurn turn.now }
+    requires turn { IsContext turn.now }
     requires within { place < length turn.now.task.patch.now.targets.items }
     requires rows { length verdicts.old ≡ row_count turn.now.task.patch.now.change }
     requires quiet { IsQuiet (T.view tree.old) }
@@ -186,18 +186,18 @@ fn try_at<P: LineStore, T: Tree, O: Sink>(
     ensures quiet { QuietAfter result (T.view tree.new) }
     ensures tidy { TidyAfter result (T.view tree.old) (T.view tree.new) }
     ensures cause { IfErr result IsDeviceFault }
-    ensures whole { IfOk result (λ done. (f : Files) → (T.view tree.old).told ≡ Some f → (P.seen plan.old).told ≡ Some (lines_in (bytes_of (plain_turn turn.now) f place))
-        → IsDone (T.view tree.old) (T.view tree.new) (O.view out.old) (O.view out.new) done verdicts.new f (finished_at (plain_turn turn.now) f [] place side)) }
-    ensures broken { OnErr result ((f : Files) → (T.view tree.old).told ≡ Some f → (P.seen plan.old).told ≡ Some (lines_in (bytes_of (plain_turn turn.now) f place))
-        → IsPartOf (T.view tree.old) (T.view tree.new) (O.view out.old) (O.view out.new) (finished_at (plain_turn turn.now) f [] place side).effects (finished_at (plain_turn turn.now) f [] place side).said) }
-    ensures order { IfErr result (λ e. (f : Files) → (T.view tree.old).told ≡ Some f → (P.seen plan.old).told ≡ Some (lines_in (bytes_of (plain_turn turn.now) f place))
-        → IsOrdered e (T.view tree.old) (T.view tree.new) (O.view out.old) (O.view out.new) (finished_at (plain_turn turn.now) f [] place side).said) }
+    ensures whole { IfOk result (λ done. (f : Files) → (T.view tree.old).told ≡ Some f → (P.seen plan.old).told ≡ Some (lines_in (bytes_of (plain_context turn.now) f place))
+        → IsDone (T.view tree.old) (T.view tree.new) (O.view out.old) (O.view out.new) done verdicts.new f (finished_at (plain_context turn.now) f [] place side)) }
+    ensures broken { OnErr result ((f : Files) → (T.view tree.old).told ≡ Some f → (P.seen plan.old).told ≡ Some (lines_in (bytes_of (plain_context turn.now) f place))
+        → IsPartOf (T.view tree.old) (T.view tree.new) (O.view out.old) (O.view out.new) (finished_at (plain_context turn.now) f [] place side).effects (finished_at (plain_context turn.now) f [] place side).said) }
+    ensures order { IfErr result (λ e. (f : Files) → (T.view tree.old).told ≡ Some f → (P.seen plan.old).told ≡ Some (lines_in (bytes_of (plain_context turn.now) f place))
+        → IsOrdered e (T.view tree.old) (T.view tree.new) (O.view out.old) (O.view out.new) (finished_at (plain_context turn.now) f [] place side).said) }
     ensures rest { O.same_rest out.old out.new }
     ensures dry { turn.now.task.options.now.dry_run ≡ true → IsUntouched (T.view tree.old) (T.view tree.new) }
     ensures rows { length verdicts.new ≡ length verdicts.old }
     ensures few { IfOk result (λ done. done.effects ≤ 5) }
     ensures placed { IfOk result (λ done. (lines : List (List ℕ)) → (P.seen plan.new).told ≡ Some lines
-        → (verdicts.new ≡ verdicts_over (plain_turn turn.now).options done.row.side (plain_turn turn.now).item.patch lines) ⊎ ((IsUntold (T.view tree.old) × IsRefused (plain_turn turn.now) done) × (verdicts.new ≡ replicate (length verdicts.old) Nowhere))) }
+        → (verdicts.new ≡ verdicts_over (plain_context turn.now).options done.row.side (plain_context turn.now).item.patch lines) ⊎ ((IsUntold (T.view tree.old) × IsRefused (plain_context turn.now) done) × (verdicts.new ≡ replicate (length verdicts.old) Nowhere))) }
 {
     let source = chosen(&turn.task, place);
     let target = written(&turn.task, place);
@@ -219,7 +219,7 @@ fn try_at<P: LineStore, T: Tree, O: Sink>(
 
 /// Says what came of the hunks, and makes the effects, if it isn't a dry run.
 fn tell_and_make<T: Tree, O: Sink>(
-    turn: &Turn<'_>,
+    turn: &FilePatchContext<'_>,
     source: &Target,
     target: &Target,
     side: Side,
@@ -229,7 +229,7 @@ fn tell_and_make<T: Tree, O: Sink>(
     tree: &mut T,
     out: &mut O,
 ) -> Result<Made, RunFault>
-    requires turn { IsTurn turn.now }
+    requires turn { IsContext turn.now }
     requires source { IsNamed source.now }
     requires named { IsNamed target.now }
     requires rows { length verdicts.now ≡ row_count turn.now.task.patch.now.change }
@@ -244,11 +244,11 @@ fn tell_and_make<T: Tree, O: Sink>(
     ensures rest { O.same_rest out.old out.new }
     ensures dry { turn.now.task.options.now.dry_run ≡ true → IsUntouched (T.view tree.old) (T.view tree.new) }
     ensures whole { IfOk result (λ made. (f : Files) (x : Tried) → (T.view tree.old).told ≡ Some f → IsOutcome turn.now.task.options.now.dry_run (T.view tree.old) attempt.entry.session target.now.temp side verdicts.now end x
-        → IsMadeWhole (plain_turn turn.now) f source.now target.now x made (T.view tree.old) (T.view tree.new) (O.view out.old) (O.view out.new)) }
+        → IsMadeWhole (plain_context turn.now) f source.now target.now x made (T.view tree.old) (T.view tree.new) (O.view out.old) (O.view out.new)) }
     ensures broken { OnErr result ((f : Files) (x : Tried) → (T.view tree.old).told ≡ Some f → IsOutcome turn.now.task.options.now.dry_run (T.view tree.old) attempt.entry.session target.now.temp side verdicts.now end x
-        → IsPartOf (T.view tree.old) (T.view tree.new) (O.view out.old) (O.view out.new) (effects_of (plain_turn turn.now) f source.now target.now x) (tried_said (plain_turn turn.now) target.now x)) }
+        → IsPartOf (T.view tree.old) (T.view tree.new) (O.view out.old) (O.view out.new) (effects_of (plain_context turn.now) f source.now target.now x) (tried_said (plain_context turn.now) target.now x)) }
     ensures order { IfErr result (λ e. (x : Tried) → IsOutcome turn.now.task.options.now.dry_run (T.view tree.old) attempt.entry.session target.now.temp side verdicts.now end x
-        → IsOrdered e (T.view tree.old) (T.view tree.new) (O.view out.old) (O.view out.new) (tried_said (plain_turn turn.now) target.now x)) }
+        → IsOrdered e (T.view tree.old) (T.view tree.new) (O.view out.old) (O.view out.new) (tried_said (plain_context turn.now) target.now x)) }
     ensures few { IfOk result (λ made. made.effects ≤ 5) }
     ensures tidy { OnOk result (IsTidy (T.view tree.old) (T.view tree.new)) }
     ensures gone { OnOk result (turn.now.task.options.now.dry_run ≡ false → IsGone (T.view tree.new) target.now.temp) }
@@ -272,10 +272,16 @@ fn tell_and_make<T: Tree, O: Sink>(
     }
 }
 
-fn done_of(turn: &Turn<'_>, place: u32, side: Side, session: &Session, made: Made) -> Done
-    requires turn { IsTurn turn.now }
+fn done_of(
+    turn: &FilePatchContext<'_>,
+    place: u32,
+    side: Side,
+    session: &Session,
+    made: Made,
+) -> Done
+    requires turn { IsContext turn.now }
     ensures row { result.row ≡ record { side = side; target = Some place; wrote = made.wrote } }
-    ensures bad { (x : Tried) → x.side ≡ side → IsSession session.now x.verdicts x.text → result.is_bad ≡ ((some_failed x.verdicts || is_kept (plain_turn turn.now) x) || fails_first (plain_turn turn.now)) }
+    ensures bad { (x : Tried) → x.side ≡ side → IsSession session.now x.verdicts x.text → result.is_bad ≡ ((some_failed x.verdicts || is_kept (plain_context turn.now) x) || fails_first (plain_context turn.now)) }
     ensures effects { result.effects ≡ made.effects }
 {
     let row = Row {
@@ -291,9 +297,9 @@ fn done_of(turn: &Turn<'_>, place: u32, side: Side, session: &Session, made: Mad
 }
 
 /// Whether a file patch whose hunks were tried is bad: by itself, or as the first behind a binary change that failed.
-fn ends_badly(turn: &Turn<'_>, side: Side, session: &Session) -> bool
-    requires { IsTurn turn.now }
-    ensures { (x : Tried) → x.side ≡ side → IsSession session.now x.verdicts x.text → result ≡ ((some_failed x.verdicts || is_kept (plain_turn turn.now) x) || fails_first (plain_turn turn.now)) }
+fn ends_badly(turn: &FilePatchContext<'_>, side: Side, session: &Session) -> bool
+    requires { IsContext turn.now }
+    ensures { (x : Tried) → x.side ≡ side → IsSession session.now x.verdicts x.text → result ≡ ((some_failed x.verdicts || is_kept (plain_context turn.now) x) || fails_first (plain_context turn.now)) }
 {
     if fails(turn, side, session) {
         return true;
@@ -302,9 +308,9 @@ fn ends_badly(turn: &Turn<'_>, side: Side, session: &Session) -> bool
 }
 
 /// Whether a hunk failed, or a file that was to be deleted wasn't.
-fn fails(turn: &Turn<'_>, side: Side, session: &Session) -> bool
-    requires { IsTurn turn.now }
-    ensures { (x : Tried) → x.side ≡ side → IsSession session.now x.verdicts x.text → result ≡ (some_failed x.verdicts || is_kept (plain_turn turn.now) x) }
+fn fails(turn: &FilePatchContext<'_>, side: Side, session: &Session) -> bool
+    requires { IsContext turn.now }
+    ensures { (x : Tried) → x.side ≡ side → IsSession session.now x.verdicts x.text → result ≡ (some_failed x.verdicts || is_kept (plain_context turn.now) x) }
 {
     session.failed > 0 || is_kept(turn, side, session)
 }

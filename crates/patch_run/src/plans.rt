@@ -9,12 +9,12 @@ ghost use Rattle.patch_run.specs.Scratches.{has_scratch};
 ghost use Rattle.patch_run.specs.Finishes.{CanApply, Finishes, LeavesVerdicts, LeavesRows};
 
 use crate::{Applied, apply_set};
+use apply_task::RunFault;
 use outside::{Scratch, Sink, Tree};
 use packed_pages::PackedB;
 use page_pair::PagePair;
 use patch_options::{Options, PlanKind};
 use patch_set::PatchSet;
-use patch_task::RunFault;
 use plan_a::{AutoPlan, PlanA, page_size};
 use plan_b::PlanB;
 use std::alloc::Global;

@@ -7,42 +7,42 @@ ghost use Rattle.outside.specs.TreeView.{Passes, Rises, IsRun};
 ghost use Rattle.outside.specs.SinkView.{SinkPasses, Writes, Receives};
 ghost use Rattle.outside.specs.Calls.{IsUntouched};
 ghost use Rattle.outside.specs.Quiet.{IsQuiet};
-ghost use Rattle.file_patch.specs.PlainPatch.{row_count};
-ghost use Rattle.patch_task.specs.Making.{IsTidy};
-ghost use Rattle.patch_task.specs.Named.{IsNamed};
-ghost use Rattle.patch_outcome.specs.TurnView.{plain_turn, IsTurn};
+ghost use Rattle.read_file_patch.specs.PlainPatch.{row_count};
+ghost use Rattle.apply_task.specs.Making.{IsTidy};
+ghost use Rattle.apply_task.specs.Named.{IsNamed};
+ghost use Rattle.apply_outcome.specs.ContextView.{plain_context, IsContext};
 ghost use Rattle.patch_run.specs.OnePatch.{shown_reject, written};
 ghost use Rattle.patch_run.specs.Refused.{refused_said, saves_refused, PutsRejects};
 ghost use Rattle.patch_run.specs.Doing.{HasEndCause};
 
-use file_patch::Target;
+use apply_outcome::{FilePatchContext, is_unrejected, swap_rejects};
+use apply_task::{RunFault, is_bare, shown_reject, written};
 use hunk_core::{Side, Verdict};
 use outside::{Failed, Sink, Tree};
-use patch_outcome::{Turn, is_unrejected, swap_rejects};
-use patch_task::{RunFault, is_bare, shown_reject, written};
+use read_file_patch::Target;
 use say_text::say_refused;
 
 /// Says that all hunks are ignored, and puts them to the reject file, where one is written and can be put; their verdicts say that
 /// they have no place. It answers whether it was.
 pub fn refuse_hunks<T: Tree, O: Sink>(
-    turn: &Turn<'_>,
+    turn: &FilePatchContext<'_>,
     place: u32,
     side: Side,
     verdicts: &[Verdict],
     tree: &mut T,
     out: &mut O,
 ) -> Result<bool, RunFault>
-    requires turn { IsTurn turn.now }
+    requires turn { IsContext turn.now }
     requires within { place < length turn.now.task.patch.now.targets.items }
     requires rows { length verdicts.now ≡ row_count turn.now.task.patch.now.change }
     requires quiet { IsQuiet (T.view tree.old) }
     ensures tree { Passes (T.view tree.old) (T.view tree.new) }
     ensures sink { SinkPasses (O.view out.old) (O.view out.new) }
     ensures cause { IfErr result (λ e. HasEndCause e (T.view tree.old) (T.view tree.new) (O.view out.old) (O.view out.new)) }
-    ensures said { IfOk result (λ was. Receives (O.view out.old) (O.view out.new) (refused_said (plain_turn turn.now) (written (plain_turn turn.now) place) was)) }
-    ensures put { IfOk result (λ was. was ≡ true → PutsRejects (T.view tree.old) (T.view tree.new) (plain_turn turn.now) (written (plain_turn turn.now) place) side verdicts.now) }
-    ensures due { IfOk result (λ was. (f : Files) → (T.view tree.old).told ≡ Some f → was ≡ saves_refused (plain_turn turn.now)) }
-    ensures may { IfOk result (λ was. was ≡ true → saves_refused (plain_turn turn.now) ≡ true) }
+    ensures said { IfOk result (λ was. Receives (O.view out.old) (O.view out.new) (refused_said (plain_context turn.now) (written (plain_context turn.now) place) was)) }
+    ensures put { IfOk result (λ was. was ≡ true → PutsRejects (T.view tree.old) (T.view tree.new) (plain_context turn.now) (written (plain_context turn.now) place) side verdicts.now) }
+    ensures due { IfOk result (λ was. (f : Files) → (T.view tree.old).told ≡ Some f → was ≡ saves_refused (plain_context turn.now)) }
+    ensures may { IfOk result (λ was. was ≡ true → saves_refused (plain_context turn.now) ≡ true) }
     ensures unsaved { IfOk result (λ was. was ≡ false → IsUntouched (T.view tree.old) (T.view tree.new)) }
     ensures quiet { OnOk result (IsQuiet (T.view tree.new)) }
     ensures tidy { OnOk result (IsTidy (T.view tree.old) (T.view tree.new)) }
@@ -57,12 +57,16 @@ pub fn refuse_hunks<T: Tree, O: Sink>(
 }
 
 /// Whether there are hunks that go to a reject file, and nothing is in the way of that.
-fn takes_rejects<T: Tree>(turn: &Turn<'_>, target: &Target, tree: &mut T) -> Result<bool, Failed>
-    requires turn { IsTurn turn.now }
+fn takes_rejects<T: Tree>(
+    turn: &FilePatchContext<'_>,
+    target: &Target,
+    tree: &mut T,
+) -> Result<bool, Failed>
+    requires turn { IsContext turn.now }
     ensures untouched { IsUntouched (T.view tree.old) (T.view tree.new) }
     ensures cause { OnErr result (Rises (T.view tree.old) (T.view tree.new)) }
-    ensures due { IfOk result (λ saved. (f : Files) → (T.view tree.old).told ≡ Some f → saved ≡ saves_refused (plain_turn turn.now)) }
-    ensures may { IfOk result (λ saved. saved ≡ true → saves_refused (plain_turn turn.now) ≡ true) }
+    ensures due { IfOk result (λ saved. (f : Files) → (T.view tree.old).told ≡ Some f → saved ≡ saves_refused (plain_context turn.now)) }
+    ensures may { IfOk result (λ saved. saved ≡ true → saves_refused (plain_context turn.now) ≡ true) }
 {
     if !saves_refused(turn) {
         return Ok(false);
@@ -74,9 +78,9 @@ fn takes_rejects<T: Tree>(turn: &Turn<'_>, target: &Target, tree: &mut T) -> Res
 }
 
 /// Whether there are hunks that go to a reject file.
-fn saves_refused(turn: &Turn<'_>) -> bool
-    requires turn { IsTurn turn.now }
-    ensures { result ≡ saves_refused (plain_turn turn.now) }
+fn saves_refused(turn: &FilePatchContext<'_>) -> bool
+    requires turn { IsContext turn.now }
+    ensures { result ≡ saves_refused (plain_context turn.now) }
 {
     if turn.task.options.dry_run {
         return false;
@@ -89,7 +93,7 @@ fn saves_refused(turn: &Turn<'_>) -> bool
 
 /// Says it, and puts them there.
 fn save_hunks<T: Tree, O: Sink>(
-    turn: &Turn<'_>,
+    turn: &FilePatchContext<'_>,
     target: &Target,
     side: Side,
     verdicts: &[Verdict],
@@ -97,17 +101,17 @@ fn save_hunks<T: Tree, O: Sink>(
     tree: &mut T,
     out: &mut O,
 ) -> Result<bool, RunFault>
-    requires turn { IsTurn turn.now }
+    requires turn { IsContext turn.now }
     requires named { IsNamed target.now }
     requires rows { length verdicts.now ≡ row_count turn.now.task.patch.now.change }
-    requires saves { saved ≡ true → saves_refused (plain_turn turn.now) ≡ true }
+    requires saves { saved ≡ true → saves_refused (plain_context turn.now) ≡ true }
     requires quiet { IsQuiet (T.view tree.old) }
     ensures tree { Passes (T.view tree.old) (T.view tree.new) }
     ensures sink { SinkPasses (O.view out.old) (O.view out.new) }
     ensures cause { IfErr result (λ e. HasEndCause e (T.view tree.old) (T.view tree.new) (O.view out.old) (O.view out.new)) }
-    ensures said { IfOk result (λ was. Receives (O.view out.old) (O.view out.new) (refused_said (plain_turn turn.now) target.now was)) }
+    ensures said { IfOk result (λ was. Receives (O.view out.old) (O.view out.new) (refused_said (plain_context turn.now) target.now was)) }
     ensures was { IfOk result (λ was. was ≡ saved) }
-    ensures put { OnOk result (saved ≡ true → PutsRejects (T.view tree.old) (T.view tree.new) (plain_turn turn.now) target.now side verdicts.now) }
+    ensures put { OnOk result (saved ≡ true → PutsRejects (T.view tree.old) (T.view tree.new) (plain_context turn.now) target.now side verdicts.now) }
     ensures quiet { OnOk result (IsQuiet (T.view tree.new)) }
     ensures tidy { OnOk result (IsTidy (T.view tree.old) (T.view tree.new)) }
     ensures rest { O.same_rest out.old out.new }
@@ -124,20 +128,20 @@ fn save_hunks<T: Tree, O: Sink>(
 }
 
 fn put_hunks<T: Tree>(
-    turn: &Turn<'_>,
+    turn: &FilePatchContext<'_>,
     target: &Target,
     side: Side,
     verdicts: &[Verdict],
     saved: bool,
     tree: &mut T,
 ) -> Result<(), Failed>
-    requires turn { IsTurn turn.now }
+    requires turn { IsContext turn.now }
     requires named { IsNamed target.now }
     requires rows { length verdicts.now ≡ row_count turn.now.task.patch.now.change }
-    requires saves { saved ≡ true → saves_refused (plain_turn turn.now) ≡ true }
+    requires saves { saved ≡ true → saves_refused (plain_context turn.now) ≡ true }
     requires quiet { IsQuiet (T.view tree.old) }
     ensures run { IsRun (T.view tree.old) (T.view tree.new) result }
-    ensures put { OnOk result (saved ≡ true → PutsRejects (T.view tree.old) (T.view tree.new) (plain_turn turn.now) target.now side verdicts.now) }
+    ensures put { OnOk result (saved ≡ true → PutsRejects (T.view tree.old) (T.view tree.new) (plain_context turn.now) target.now side verdicts.now) }
     ensures quiet { OnOk result (IsQuiet (T.view tree.new)) }
     ensures tidy { OnOk result (IsTidy (T.view tree.old) (T.view tree.new)) }
     ensures unsaved { saved ≡ false → IsUntouched (T.view tree.old) (T.view tree.new) }
@@ -150,14 +154,14 @@ fn put_hunks<T: Tree>(
 
 /// Says that all hunks are ignored, where there is one, and names the reject file, if it is put.
 fn tell_refused<O: Sink>(
-    turn: &Turn<'_>,
+    turn: &FilePatchContext<'_>,
     target: &Target,
     saved: bool,
     out: &mut O,
 ) -> Result<(), Failed>
-    requires turn { IsTurn turn.now }
+    requires turn { IsContext turn.now }
     requires named { IsNamed target.now }
-    ensures writes { Writes (O.view out.old) (O.view out.new) result (refused_said (plain_turn turn.now) target.now saved) }
+    ensures writes { Writes (O.view out.old) (O.view out.new) result (refused_said (plain_context turn.now) target.now saved) }
     ensures rest { O.same_rest out.old out.new }
 {
     if is_bare(turn.task.patch) {

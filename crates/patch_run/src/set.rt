@@ -5,29 +5,29 @@ ghost use Rattle.std.specs.Option.{ForSome};
 ghost use Rattle.outside.specs.Files.{Files};
 ghost use Rattle.outside.specs.Calls.{IsUntouched};
 ghost use Rattle.outside.specs.Quiet.{IsQuiet};
-ghost use Rattle.file_patch.specs.declared.FilePatch.{FilePatch as ThePatch};
-ghost use Rattle.file_patch.specs.PlainPatch.{row_count};
+ghost use Rattle.read_file_patch.specs.declared.FilePatch.{FilePatch as ThePatch};
+ghost use Rattle.read_file_patch.specs.PlainPatch.{row_count};
 ghost use Rattle.patch_options.specs.PlainJob.{plain_options, IsLawful};
 ghost use Rattle.patch_set.specs.Room.{HaveRoom};
 ghost use Rattle.patch_set.specs.SetView.{hunks_in};
 ghost use Rattle.patch_run.specs.Finishes.{HasNames};
 ghost use Rattle.patch_run.specs.Run.{items_of, set_run};
-ghost use Rattle.patch_outcome.specs.Ready.{IsReady, AreNumbered, AreWritten, marks, rows_in, turn_at};
+ghost use Rattle.apply_outcome.specs.Ready.{IsReady, AreNumbered, AreWritten, marks, rows_in, turn_at};
 ghost use Rattle.patch_run.specs.OnePatch.{ending};
 ghost use Rattle.patch_run.specs.Doing.{Does, Runs, IsReceipt, IsCutAt, NoneFailed, EndsSo, StaysSet, IsUntold, ArePlaced, IsPlacedOn, IsPlacedLast};
-ghost use Rattle.patch_start.specs.Devices.{Told};
-ghost use Rattle.patch_outcome.specs.TurnView.{IsTurn, plain_turn};
-ghost use Rattle.patch_task.specs.Outputs.{verdicts_over};
+ghost use Rattle.apply_start.specs.Devices.{Told};
+ghost use Rattle.apply_outcome.specs.ContextView.{IsContext, plain_context};
+ghost use Rattle.apply_task.specs.Outputs.{verdicts_over};
 
 use crate::applied::Applied;
 use crate::one_patch::{Done, apply_one};
+use apply_outcome::{FilePatchContext, with_row};
+use apply_task::{RunFault, Task};
 use hunk_core::Verdict;
 use line_store::Plan;
-use outside::{NameMarks, Sink, Tree};
+use outside::{Sink, Tree, WrittenNames};
 use patch_options::Options;
-use patch_outcome::{Turn, with_row};
 use patch_set::PatchSet;
-use patch_task::{RunFault, Task};
 
 /// Carries out the file patches of a set one after another, each on the files that those before it left: what is said
 /// goes to `out`, and the effects are made on the tree. The plan holds the lines of one file at a time. Afterwards the set
@@ -84,7 +84,7 @@ fn apply_all<P: Plan, T: Tree, O: Sink>(
     set: &mut PatchSet,
     options: &Options,
     verdicts: &mut [Verdict],
-    written: Option<NameMarks>,
+    written: Option<WrittenNames>,
     plan: &mut P,
     tree: &mut T,
     out: &mut O,
@@ -132,7 +132,7 @@ fn apply_at<P: Plan, T: Tree, O: Sink>(
     k: u32,
     options: &Options,
     verdicts: &mut [Verdict],
-    written: &Option<NameMarks>,
+    written: &Option<WrittenNames>,
     plan: &mut P,
     tree: &mut T,
     out: &mut O,
@@ -156,7 +156,7 @@ fn apply_at<P: Plan, T: Tree, O: Sink>(
 {
     let patch = &set.patches()[k as usize];
     let (before, behind) = verdicts.split_at_mut(patch.first_verdict as usize);
-    let turn = Turn {
+    let turn = FilePatchContext {
         task: Task {
             options,
             set,
@@ -172,24 +172,24 @@ fn apply_at<P: Plan, T: Tree, O: Sink>(
 
 /// Carries out one file patch, whose verdicts are the first of these.
 fn apply_front<P: Plan, T: Tree, O: Sink>(
-    turn: &Turn<'_>,
+    turn: &FilePatchContext<'_>,
     verdicts: &mut [Verdict],
     plan: &mut P,
     tree: &mut T,
     out: &mut O,
 ) -> Result<Done, RunFault>
-    requires turn { IsTurn turn.now }
+    requires turn { IsContext turn.now }
     requires size { (P.seen plan.old).size ≡ turn.now.task.options.now.buffer }
     requires rows { row_count turn.now.task.patch.now.change ≤ length verdicts.old }
     requires quiet { IsQuiet (T.view tree.old) }
-    ensures does { Does (T.view tree.old) (T.view tree.new) (P.seen plan.old) (P.seen plan.new) (O.view out.old) (O.view out.new) P.scratch_after result (take (row_count turn.now.task.patch.now.change) verdicts.new) (ending (plain_turn turn.now)) }
+    ensures does { Does (T.view tree.old) (T.view tree.new) (P.seen plan.old) (P.seen plan.new) (O.view out.old) (O.view out.new) P.scratch_after result (take (row_count turn.now.task.patch.now.change) verdicts.new) (ending (plain_context turn.now)) }
     ensures behind { drop (row_count turn.now.task.patch.now.change) verdicts.new ≡ drop (row_count turn.now.task.patch.now.change) verdicts.old }
     ensures verdicts { length verdicts.new ≡ length verdicts.old }
     ensures rest { O.same_rest out.old out.new }
     ensures dry { turn.now.task.options.now.dry_run ≡ true → IsUntouched (T.view tree.old) (T.view tree.new) }
     ensures few { IfOk result (λ done. done.effects ≤ 5) }
     ensures placed { IfOk result (λ done. (lines : List (List ℕ)) → (P.seen plan.new).told ≡ Some lines
-        → ArePlaced (IsUntold (T.view tree.old)) (row_count turn.now.task.patch.now.change) (take (row_count turn.now.task.patch.now.change) verdicts.new) (verdicts_over (plain_turn turn.now).options done.row.side (plain_turn turn.now).item.patch lines)) }
+        → ArePlaced (IsUntold (T.view tree.old)) (row_count turn.now.task.patch.now.change) (take (row_count turn.now.task.patch.now.change) verdicts.new) (verdicts_over (plain_context turn.now).options done.row.side (plain_context turn.now).item.patch lines)) }
 {
     let count = turn.task.patch.hunks() as usize;
     let own = &mut verdicts[..count];

@@ -10,27 +10,27 @@ ghost use Rattle.outside.specs.Quiet.{IsQuiet, WorksOn, Holds};
 ghost use Rattle.hunk_core.specs.declared.Verdict.TheVariants.{Nowhere};
 ghost use Rattle.line_store.specs.Store.{Keeps};
 ghost use Rattle.hunk_apply.specs.Session.{IsTried};
-ghost use Rattle.file_patch.specs.PlainPatch.{row_count};
-ghost use Rattle.patch_task.specs.Outputs.{tried, IsSession};
-ghost use Rattle.patch_task.specs.Making.{GoesQuietly, IsGone, IsTidy, UnlessFailed};
-ghost use Rattle.patch_task.specs.LineEnds.{first_end};
-ghost use Rattle.patch_task.specs.Named.{IsNamed};
-ghost use Rattle.patch_task.specs.TaskView.{plain_task};
-ghost use Rattle.patch_start.specs.Trying.{IsBegun, HasTryCause};
-ghost use Rattle.patch_outcome.specs.TurnView.{plain_turn, IsTurn};
+ghost use Rattle.read_file_patch.specs.PlainPatch.{row_count};
+ghost use Rattle.apply_task.specs.Outputs.{tried, IsSession};
+ghost use Rattle.apply_task.specs.Making.{GoesQuietly, IsGone, IsTidy, UnlessFailed};
+ghost use Rattle.apply_task.specs.LineEnds.{first_end};
+ghost use Rattle.apply_task.specs.Named.{IsNamed};
+ghost use Rattle.apply_task.specs.TaskView.{plain_task};
+ghost use Rattle.apply_start.specs.Trying.{IsBegun, HasTryCause};
+ghost use Rattle.apply_outcome.specs.ContextView.{plain_context, IsContext};
 ghost use Rattle.patch_run.specs.Doing.{HasEndCause, IsRefused};
 
 use crate::one_patch::{Done, refuse};
-use file_patch::Target;
+use apply_outcome::{FilePatchContext, is_mismatch_kept, is_rejected};
+use apply_start::{
+    Attempt, Barrier, first_end, obstacle_to_backup, obstacle_to_rejects, say_barrier, try_hunks,
+};
+use apply_task::{RunFault, keep_old, renames};
 use hunk_apply::Session;
 use hunk_core::{Side, Verdict};
 use line_store::LineStore;
 use outside::{Failed, Sink, Tree};
-use patch_outcome::{Turn, is_mismatch_kept, is_rejected};
-use patch_start::{
-    Attempt, Barrier, first_end, obstacle_to_backup, obstacle_to_rejects, say_barrier, try_hunks,
-};
-use patch_task::{RunFault, keep_old, renames};
+use read_file_patch::Target;
 use replace_file::Temp;
 
 /// What came of the hunks, and what is in the way of the files that they ask for beside the target.
@@ -44,7 +44,7 @@ pub struct Trial<'n> {
 
 /// Tries the hunks, writes the output to the target's temporary, unless in a dry run, and looks what is in the way of the rest.
 pub fn try_free<'n, P: LineStore, T: Tree>(
-    turn: &Turn<'_>,
+    turn: &FilePatchContext<'_>,
     source: &'n Target,
     target: &'n Target,
     side: Side,
@@ -52,7 +52,7 @@ pub fn try_free<'n, P: LineStore, T: Tree>(
     plan: &mut P,
     tree: &mut T,
 ) -> Result<Trial<'n>, RunFault>
-    requires turn { IsTurn turn.now }
+    requires turn { IsContext turn.now }
     requires named { IsNamed target.now }
     requires rows { length verdicts.old ≡ row_count turn.now.task.patch.now.change }
     requires quiet { IsQuiet (T.view tree.old) }
@@ -93,13 +93,13 @@ pub fn try_free<'n, P: LineStore, T: Tree>(
 /// It is looked for in front of the first effect. Then the whole file patch is refused, also hunks that had a place: it is
 /// never half done, and a dry run says the same.
 fn obstacle_behind<'n, T: Tree>(
-    turn: &Turn<'_>,
+    turn: &FilePatchContext<'_>,
     source: &'n Target,
     target: &'n Target,
     session: &Session,
     tree: &mut T,
 ) -> Result<Option<Barrier<'n>>, Failed>
-    requires turn { IsTurn turn.now }
+    requires turn { IsContext turn.now }
     requires named { IsNamed target.now }
     ensures untouched { IsUntouched (T.view tree.old) (T.view tree.new) }
     ensures cause { OnErr result (Rises (T.view tree.old) (T.view tree.new)) }
@@ -114,13 +114,13 @@ fn obstacle_behind<'n, T: Tree>(
 
 /// The same of the backups alone: of a rename the source has one too.
 fn obstacle_to_kept<'n, T: Tree>(
-    turn: &Turn<'_>,
+    turn: &FilePatchContext<'_>,
     source: &'n Target,
     target: &'n Target,
     session: &Session,
     tree: &mut T,
 ) -> Result<Option<Barrier<'n>>, Failed>
-    requires turn { IsTurn turn.now }
+    requires turn { IsContext turn.now }
     ensures untouched { IsUntouched (T.view tree.old) (T.view tree.new) }
     ensures cause { OnErr result (Rises (T.view tree.old) (T.view tree.new)) }
     ensures free { IfOk result (λ found. (f : Files) → (T.view tree.old).told ≡ Some f → found ≡ None) }
@@ -134,13 +134,13 @@ fn obstacle_to_kept<'n, T: Tree>(
 }
 
 fn obstacle_to_moved<'n, T: Tree>(
-    turn: &Turn<'_>,
+    turn: &FilePatchContext<'_>,
     source: &'n Target,
     target: &Target,
     session: &Session,
     tree: &mut T,
 ) -> Result<Option<Barrier<'n>>, Failed>
-    requires turn { IsTurn turn.now }
+    requires turn { IsContext turn.now }
     ensures untouched { IsUntouched (T.view tree.old) (T.view tree.new) }
     ensures cause { OnErr result (Rises (T.view tree.old) (T.view tree.new)) }
     ensures free { IfOk result (λ found. (f : Files) → (T.view tree.old).told ≡ Some f → found ≡ None) }
@@ -151,7 +151,7 @@ fn obstacle_to_moved<'n, T: Tree>(
 
 /// Something is in the way: the output is dropped, and the file patch is refused, whatever its hunks came to.
 pub fn refuse_tried<T: Tree, O: Sink>(
-    turn: &Turn<'_>,
+    turn: &FilePatchContext<'_>,
     place: u32,
     side: Side,
     target: &Target,
@@ -161,7 +161,7 @@ pub fn refuse_tried<T: Tree, O: Sink>(
     tree: &mut T,
     out: &mut O,
 ) -> Result<Done, RunFault>
-    requires turn { IsTurn turn.now }
+    requires turn { IsContext turn.now }
     requires within { place < length turn.now.task.patch.now.targets.items }
     requires named { IsNamed target.now }
     requires begun { IsBegun turn.now.task.options.now.dry_run temp target.now.temp }
@@ -179,7 +179,7 @@ pub fn refuse_tried<T: Tree, O: Sink>(
     ensures rows { length verdicts.new ≡ length verdicts.old }
     ensures nowhere { OnOk result (verdicts.new ≡ replicate (length verdicts.old) Nowhere) }
     ensures row { IfOk result (λ done. done.row ≡ record { side = side; target = Some place; wrote = false }) }
-    ensures refused { IfOk result (IsRefused (plain_turn turn.now)) }
+    ensures refused { IfOk result (IsRefused (plain_context turn.now)) }
 {
     match drop_output(target, temp, tree) {
         Ok(()) => {}

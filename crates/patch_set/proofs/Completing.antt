@@ -5,9 +5,9 @@ use Rattle.std.proofs.Math.Dec.{eqb-suc-zero}
 use Rattle.line_list.specs.Lines.{lines}
 use Rattle.line_list.specs.Join.{ends_open, feed_if}
 use Rattle.line_list.specs.Completed.{completed}
-use Rattle.file_patch.specs.PlainPatch.{PlainPatch}
+use Rattle.read_file_patch.specs.PlainPatch.{PlainPatch}
 use Rattle.patch_options.specs.PlainJob.{PlainOptions}
-use Rattle.patch_text.specs.Patches.{patches_of}
+use Rattle.read_patch_text.specs.Patches.{patches_of}
 use Rattle.patch_set.specs.Asked.{ways_of}
 use Rattle.patch_set.specs.declared.fault.SetFault.{SetFault}
 use Rattle.patch_set.specs.declared.fault.SetFault.TheVariants as faults

@@ -3,12 +3,12 @@ use Rattle.std.proofs.Common.{◌≡◌, ℕ, ◌+◌, Bool, true, false, List, 
 use Rattle.line_list.specs.declared.Span.{Span}
 use Rattle.hunk_core.specs.PlainHunk.{bytes_at}
 use Rattle.hunk_core.specs.Pieces.{AreInTurn}
-use Rattle.header_record.specs.declared.Header.{Header}
-use Rattle.file_patch.specs.declared.FilePatch.{FilePatch}
-use Rattle.file_patch.specs.PlainPatch.{row_count}
-use Rattle.patch_text.specs.Changes.{AreCut}
-use Rattle.patch_text.specs.Regions.{region_of}
-use Rattle.patch_text.specs.Spelled.{cut_at, spelled_at, spelled_in, spelled_of}
+use Rattle.read_header_record.specs.declared.Header.{Header}
+use Rattle.read_file_patch.specs.declared.FilePatch.{FilePatch}
+use Rattle.read_file_patch.specs.PlainPatch.{row_count}
+use Rattle.read_patch_text.specs.Changes.{AreCut}
+use Rattle.read_patch_text.specs.Regions.{region_of}
+use Rattle.read_patch_text.specs.Spelled.{cut_at, spelled_at, spelled_in, spelled_of}
 use Rattle.patch_set.specs.Spans.{IsPlaced, ArePlaced}
 use Rattle.patch_set.specs.SetView.{SetView, IsWhole}
 

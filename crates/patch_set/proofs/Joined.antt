@@ -4,14 +4,14 @@ use Rattle.std.specs.Prelude.{option_and_then}
 use Rattle.std.specs.Option.{option_to_list}
 use Rattle.std.proofs.lemmas.List.{map-append}
 use Rattle.patch_options.specs.PlainJob.{PlainOptions}
-use Rattle.file_patch.specs.declared.derived.Target.{Target}
-use Rattle.file_patch.specs.Targets.{target_of}
-use Rattle.file_patch.specs.Numbered.{with_name, joined_by, distinct}
-use Rattle.file_patch.proofs.Names.{numbers-stay, with-among}
-use Rattle.file_patch.specs.PlainPatch.{PlainHeader}
-use Rattle.file_patch.specs.Actions.{is_moved}
-use Rattle.file_patch.specs.Candidates.{candidate, candidates, header_candidate, header_names, index_beside, index_names}
-use Rattle.file_patch.specs.Moved.{moved_name, moved_names, two_names}
+use Rattle.read_file_patch.specs.declared.derived.Target.{Target}
+use Rattle.read_file_patch.specs.Targets.{target_of}
+use Rattle.read_file_patch.specs.Numbered.{with_name, joined_by, distinct}
+use Rattle.read_file_patch.proofs.Names.{numbers-stay, with-among}
+use Rattle.read_file_patch.specs.PlainPatch.{PlainHeader}
+use Rattle.read_file_patch.specs.Actions.{is_moved}
+use Rattle.read_file_patch.specs.Candidates.{candidate, candidates, header_candidate, header_names, index_beside, index_names}
+use Rattle.read_file_patch.specs.Moved.{moved_name, moved_names, two_names}
 use Rattle.patch_set.specs.Asked.{is_posix}
 use Rattle.patch_set.specs.Named.{names_of, operand_or, output_of, own_names, target_in}
 

@@ -7,17 +7,17 @@ use Rattle.std.proofs.lemmas.List.Elements.{recursion_from_All, All-from_recursi
 use Rattle.hunk_core.specs.declared.Side.{Side}
 use Rattle.hunk_core.specs.declared.Side.TheVariants.{Forward, Reversed}
 use Rattle.hunk_core.specs.PlainHunk.{hunk_of}
-use Rattle.file_patch.specs.declared.Change.{Change}
-use Rattle.file_patch.specs.declared.Change.TheVariants.{Hunks, Script}
-use Rattle.file_patch.specs.declared.FilePatch.{FilePatch}
-use Rattle.file_patch.specs.PlainPatch.{header_of, change_of, patch_of, hunk_count, row_count, IsLawfulChange}
-use Rattle.file_patch.specs.Absent.{told_absent, is_absent, IsLawfulPatch}
+use Rattle.read_file_patch.specs.declared.Change.{Change}
+use Rattle.read_file_patch.specs.declared.Change.TheVariants.{Hunks, Script}
+use Rattle.read_file_patch.specs.declared.FilePatch.{FilePatch}
+use Rattle.read_file_patch.specs.PlainPatch.{header_of, change_of, patch_of, hunk_count, row_count, IsLawfulChange}
+use Rattle.read_file_patch.specs.Absent.{told_absent, is_absent, IsLawfulPatch}
 use Rattle.patch_options.specs.PlainJob.{PlainOptions}
-use Rattle.file_patch.specs.Numbered.{joined_by}
+use Rattle.read_file_patch.specs.Numbered.{joined_by}
 use Rattle.patch_set.specs.Named.{names_of, targets_of}
 use Rattle.patch_set.specs.Naming.{IsNamed, AreNamed}
 use Rattle.patch_set.specs.SetView.{hunks_in}
-use Rattle.patch_text.specs.Regions.{region_of}
+use Rattle.read_patch_text.specs.Regions.{region_of}
 use Rattle.patch_set.specs.Spans.{IsPlaced, ArePlaced}
 use Rattle.patch_set.proofs.Joined.{joined-append}
 

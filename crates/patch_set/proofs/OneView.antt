@@ -3,14 +3,14 @@ use Rattle.std.proofs.Common.{◌≡◌, ℕ, ◌+◌, Bool, true, false, List, 
 use Rattle.line_list.specs.declared.Span.{Span}
 use Rattle.hunk_core.specs.Pieces.{AreInTurn}
 use Rattle.hunk_core.specs.Reading.{Fault}
-use Rattle.file_patch.specs.declared.FilePatch.{FilePatch}
-use Rattle.file_patch.specs.PlainPatch.{PlainPatch, header_of, row_count}
-use Rattle.header_record.specs.declared.Header.{Header}
+use Rattle.read_file_patch.specs.declared.FilePatch.{FilePatch}
+use Rattle.read_file_patch.specs.PlainPatch.{PlainPatch, header_of, row_count}
+use Rattle.read_header_record.specs.declared.Header.{Header}
 use Rattle.patch_options.specs.PlainJob.{PlainOptions}
-use Rattle.file_patch.specs.declared.derived.Target.{Target}
-use Rattle.patch_text.specs.Patches.{patches_of}
-use Rattle.patch_text.specs.Regions.{region_of, regions_of}
-use Rattle.patch_text.specs.Changes.{AreCut}
+use Rattle.read_file_patch.specs.declared.derived.Target.{Target}
+use Rattle.read_patch_text.specs.Patches.{patches_of}
+use Rattle.read_patch_text.specs.Regions.{region_of, regions_of}
+use Rattle.read_patch_text.specs.Changes.{AreCut}
 use Rattle.patch_set.specs.Asked.{ways_of}
 use Rattle.patch_set.specs.Named.{known_names, targets_of, output_of}
 use Rattle.patch_set.specs.Skipped.{skipped_changes}

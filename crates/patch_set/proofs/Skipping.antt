@@ -5,8 +5,8 @@ use Rattle.std.proofs.lemmas.Bool.{le-ltb, lt-ltb}
 use Rattle.std.proofs.lemmas.List.{append-nil, drop_all, length-map}
 use Rattle.line_list.specs.Lines.{lines, IsLineAt}
 use Rattle.patch_header.specs.Content.{is_binary}
-use Rattle.file_patch.specs.declared.FilePatch.{FilePatch}
-use Rattle.patch_text.specs.Regions.{Region, region_of}
+use Rattle.read_file_patch.specs.declared.FilePatch.{FilePatch}
+use Rattle.read_patch_text.specs.Regions.{Region, region_of}
 use Rattle.patch_header.proofs.Rows.{line_length}
 use Rattle.patch_set.specs.declared.skipped.BinaryChange.{BinaryChange}
 use Rattle.patch_set.specs.Skipped.{is_outside, names_on, changes_if, skipped_from}

@@ -3,8 +3,8 @@ use Rattle.std.proofs.Common.{◌≡◌, ℕ, zero, suc, ◌+◌, ◌≤◌, Lis
 use Rattle.std.specs.Prelude.{slice_get}
 use Rattle.std.proofs.lemmas.List.Sums.{sum_by-cons}
 use Rattle.std.proofs.lemmas.Option.{same_Some}
-use Rattle.file_patch.specs.declared.FilePatch.{FilePatch}
-use Rattle.file_patch.specs.PlainPatch.{row_count}
+use Rattle.read_file_patch.specs.declared.FilePatch.{FilePatch}
+use Rattle.read_file_patch.specs.PlainPatch.{row_count}
 use Rattle.patch_set.specs.SetView.{SetView, IsWhole, hunks_in, patch_at}
 use Rattle.patch_set.specs.Spans.{ArePlaced}
 

@@ -2,10 +2,10 @@
 use Rattle.std.proofs.Common.{◌≡◌, ℕ, ◌+◌, ◌<◌, List, [], ◌∷◌, ◌++◌, map, take, drop, length, get_or, set, sym, ap, ◌∙◌, arith}
 use Rattle.std.proofs.lemmas.List.{map-append, flat_map_more, take_more, take_more_set, drop-set-lt, drop-drop, get_or-drop, append-nil, take_all}
 use Rattle.std.proofs.Math.Seq.{drop-length}
-use Rattle.file_patch.specs.declared.FilePatch.{FilePatch}
-use Rattle.file_patch.specs.PlainPatch.{patch_of, header_of}
+use Rattle.read_file_patch.specs.declared.FilePatch.{FilePatch}
+use Rattle.read_file_patch.specs.PlainPatch.{patch_of, header_of}
 use Rattle.patch_options.specs.PlainJob.{PlainOptions}
-use Rattle.file_patch.specs.Numbered.{joined_by}
+use Rattle.read_file_patch.specs.Numbered.{joined_by}
 use Rattle.patch_set.specs.Named.{patch_names, names_of}
 use Rattle.patch_set.specs.Naming.{IsNamed}
 use Rattle.patch_set.proofs.Joined.{joined-append}

@@ -2,7 +2,7 @@
 use Rattle.std.specs.Prelude.{Bool, true, false, not, ◌&&◌, ◌||◌, Option, None, Some, is_none}
 use Rattle.hunk_core.specs.declared.Form.{Form}
 use Rattle.hunk_core.specs.declared.Form.TheVariants.{Unified, Context, Normal, Ed}
-use Rattle.patch_header.specs.declared.ways.Ways.{Ways}
+use Rattle.patch_header.specs.declared.read_options.ReadOptions.{ReadOptions}
 use Rattle.patch_options.specs.PlainJob.{PlainOptions}
 
 -- the command has option --posix
@@ -30,5 +30,5 @@ abbrev pub skips_binary : PlainOptions → Bool
 skips_binary o = (o.force || o.batch) || o.skip_binary
 
 -- the ways for a command
-abbrev pub ways_of : PlainOptions → Ways
+abbrev pub ways_of : PlainOptions → ReadOptions
 ways_of o = record { only = o.only; git = reads_git o; skip_binary = skips_binary o }

@@ -2,11 +2,11 @@
 use Rattle.std.specs.Prelude.{Bool, true, false, ◌||◌, Option}
 use Rattle.std.specs.List.{list_any}
 use Rattle.std.specs.Option.{option_map_or}
-use Rattle.file_patch.specs.declared.Change.{Change}
-use Rattle.file_patch.specs.declared.Change.TheVariants.{Hunks, Script}
-use Rattle.file_patch.specs.declared.FilePatch.{FilePatch}
-use Rattle.file_patch.specs.declared.derived.Target.{Target}
-use Rattle.file_patch.specs.Targets.{is_reserved}
+use Rattle.read_file_patch.specs.declared.Change.{Change}
+use Rattle.read_file_patch.specs.declared.Change.TheVariants.{Hunks, Script}
+use Rattle.read_file_patch.specs.declared.FilePatch.{FilePatch}
+use Rattle.read_file_patch.specs.declared.derived.Target.{Target}
+use Rattle.read_file_patch.specs.Targets.{is_reserved}
 
 -- the change is an ed script
 abbrev pub is_script_change : Change → Bool

@@ -2,15 +2,15 @@
 use Rattle.std.specs.Prelude.{ℕ, List, [], ◌∷◌, ◌++◌, map, if◌then◌else◌, Option, None, Some, option_map}
 use Rattle.std.specs.List.{flat_map}
 use Rattle.std.specs.Option.{option_to_list}
-use Rattle.file_patch.specs.PlainPatch.{PlainHeader, PlainPatch}
+use Rattle.read_file_patch.specs.PlainPatch.{PlainHeader, PlainPatch}
 use Rattle.patch_options.specs.PlainJob.{PlainOptions}
-use Rattle.file_patch.specs.declared.derived.Target.{Target}
-use Rattle.file_patch.specs.Candidates.{candidates}
-use Rattle.file_patch.specs.Moved.{moved_names}
-use Rattle.file_patch.specs.Actions.{is_moved}
+use Rattle.read_file_patch.specs.declared.derived.Target.{Target}
+use Rattle.read_file_patch.specs.Candidates.{candidates}
+use Rattle.read_file_patch.specs.Moved.{moved_names}
+use Rattle.read_file_patch.specs.Actions.{is_moved}
 use Rattle.patch_set.specs.Asked.{is_posix}
-use Rattle.file_patch.specs.Numbered.{number_in, distinct}
-use Rattle.file_patch.specs.Targets.{target_of}
+use Rattle.read_file_patch.specs.Numbered.{number_in, distinct}
+use Rattle.read_file_patch.specs.Targets.{target_of}
 
 -- the file operand alone, where there is one
 abbrev pub operand_or : Option (List ℕ) → List (List ℕ) → List (List ℕ)

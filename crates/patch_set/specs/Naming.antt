@@ -1,11 +1,11 @@
 -- File patches that were given their targets, all else staying.
 use Rattle.std.specs.Prelude.{◌≡◌, ℕ, ◌<◌, ◌^◌, List, [], ◌∷◌, length, map, All, Option}
 use Rattle.std.specs.Option.{ForSome}
-use Rattle.file_patch.specs.declared.FilePatch.{FilePatch}
-use Rattle.file_patch.specs.PlainPatch.{header_of, patch_of}
+use Rattle.read_file_patch.specs.declared.FilePatch.{FilePatch}
+use Rattle.read_file_patch.specs.PlainPatch.{header_of, patch_of}
 use Rattle.patch_options.specs.PlainJob.{PlainOptions}
-use Rattle.file_patch.specs.declared.derived.Target.{Target}
-use Rattle.file_patch.specs.Targets.{HasTemps}
+use Rattle.read_file_patch.specs.declared.derived.Target.{Target}
+use Rattle.read_file_patch.specs.Targets.{HasTemps}
 use Rattle.patch_set.specs.Named.{known_names, output_of, targets_of}
 
 -- a file patch and what it is with its targets

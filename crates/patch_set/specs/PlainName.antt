@@ -1,8 +1,8 @@
 -- The one name by which a filter knows a file patch, as its header lines write it.
 use Rattle.std.specs.Prelude.{ℕ, List, [], if◌then◌else◌, Option, None, Some}
 use Rattle.std.specs.Option.{option_map_or, option_or}
-use Rattle.file_patch.specs.PlainPatch.{PlainHeader}
-use Rattle.file_patch.specs.Absent.{is_null}
+use Rattle.read_file_patch.specs.PlainPatch.{PlainHeader}
+use Rattle.read_file_patch.specs.Absent.{is_null}
 use Rattle.name_choice.specs.Better.{is_better}
 
 -- a name that is a file's: `/dev/null` is none

@@ -6,10 +6,10 @@ use Rattle.line_list.specs.Completed.{completed}
 use Rattle.hunk_core.specs.declared.fault.FormFault.{FormFault}
 use Rattle.hunk_core.specs.declared.fault.FormFault.TheVariants as forms
 use Rattle.hunk_core.specs.Reading.{Fault}
-use Rattle.file_patch.specs.PlainPatch.{PlainPatch, is_script}
+use Rattle.read_file_patch.specs.PlainPatch.{PlainPatch, is_script}
 use Rattle.patch_options.specs.PlainJob.{PlainOptions}
-use Rattle.file_patch.specs.Targets.{is_reserved}
-use Rattle.patch_text.specs.Patches.{patches_of}
+use Rattle.read_file_patch.specs.Targets.{is_reserved}
+use Rattle.read_patch_text.specs.Patches.{patches_of}
 use Rattle.patch_set.specs.declared.fault.SetFault.{SetFault}
 use Rattle.patch_set.specs.declared.fault.SetFault.TheVariants as faults
 use Rattle.patch_set.specs.Asked.{ways_of}

@@ -5,15 +5,15 @@ use Rattle.line_list.specs.Completed.{completed}
 use Rattle.hunk_core.specs.declared.Side.TheVariants.{Forward}
 use Rattle.hunk_core.specs.declared.Verdict.{Verdict}
 use Rattle.hunk_core.specs.declared.Verdict.TheVariants.{Untried}
-use Rattle.file_patch.specs.declared.FilePatch.{FilePatch}
-use Rattle.file_patch.specs.PlainPatch.{PlainPatch, header_of, patch_of, row_count}
-use Rattle.file_patch.specs.Absent.{IsLawfulPatch}
+use Rattle.read_file_patch.specs.declared.FilePatch.{FilePatch}
+use Rattle.read_file_patch.specs.PlainPatch.{PlainPatch, header_of, patch_of, row_count}
+use Rattle.read_file_patch.specs.Absent.{IsLawfulPatch}
 use Rattle.patch_options.specs.PlainJob.{PlainOptions}
-use Rattle.file_patch.specs.declared.derived.Target.{Target}
-use Rattle.file_patch.specs.Targets.{HasTemps, IsLasting}
-use Rattle.patch_header.specs.declared.ways.Ways.{Ways}
-use Rattle.patch_text.specs.Patches.{patches_of}
-use Rattle.patch_text.specs.Regions.{region_of, regions_of}
+use Rattle.read_file_patch.specs.declared.derived.Target.{Target}
+use Rattle.read_file_patch.specs.Targets.{HasTemps, IsLasting}
+use Rattle.patch_header.specs.declared.read_options.ReadOptions.{ReadOptions}
+use Rattle.read_patch_text.specs.Patches.{patches_of}
+use Rattle.read_patch_text.specs.Regions.{region_of, regions_of}
 use Rattle.patch_set.specs.declared.fault.SetFault.{SetFault}
 use Rattle.patch_set.specs.declared.fault.SetFault.TheVariants.{Memory}
 use Rattle.patch_set.specs.declared.set.Row.{Row}
@@ -26,7 +26,7 @@ use Rattle.patch_set.specs.Spans.{ArePlaced}
 pub record SetView : Type 0 where
   -- the text that was read, with a line feed at its end, and the ways in which it was read
   pub text : List ℕ
-  pub ways : Ways
+  pub ways : ReadOptions
   pub patches : List FilePatch
   pub output : Option Target
   -- the binary changes that were passed over

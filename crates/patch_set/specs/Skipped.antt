@@ -5,9 +5,9 @@ use Rattle.line_list.specs.Lines.{lines}
 use Rattle.hunk_core.specs.LineTests.{after}
 use Rattle.patch_header.specs.Content.{content, is_binary}
 use Rattle.patch_header.specs.GitRows.{half}
-use Rattle.file_patch.specs.Candidates.{header_candidate}
-use Rattle.patch_header.specs.declared.ways.Ways.{Ways}
-use Rattle.patch_text.specs.Regions.{Region, regions_of}
+use Rattle.read_file_patch.specs.Candidates.{header_candidate}
+use Rattle.patch_header.specs.declared.read_options.ReadOptions.{ReadOptions}
+use Rattle.read_patch_text.specs.Regions.{Region, regions_of}
 use Rattle.patch_set.specs.declared.skipped.BinaryChange.{BinaryChange}
 
 -- a place lies in no hunk, ed script or bare git header: in front of an opening and behind the file patch before, or behind all
@@ -50,5 +50,5 @@ skipped_from rs at number names (line ∷ rest) =
     changes_if (is_outside rs at && is_binary line) number names line ++ skipped_from rs (at + length line) (number + 1) (names_on names (is_outside rs at) line) rest
 
 -- those of a text, where binary lines are passed over
-unfoldable pub skipped_changes : Ways → List ℕ → List BinaryChange
+unfoldable pub skipped_changes : ReadOptions → List ℕ → List BinaryChange
 skipped_changes ways text = if ways.skip_binary then skipped_from (regions_of ways text) 0 1 None (lines text) else []

@@ -1,8 +1,8 @@
 -- Where the file patches of a set lie in its text.
 use Rattle.std.specs.Prelude.{◌≡◌, ℕ, ◌+◌, ◌<◌, ◌≤◌, List, [], ◌∷◌, length}
-use Rattle.file_patch.specs.declared.FilePatch.{FilePatch}
-use Rattle.file_patch.specs.PlainPatch.{change_of, row_count}
-use Rattle.patch_text.specs.Changes.{AreCut, SpellChange}
+use Rattle.read_file_patch.specs.declared.FilePatch.{FilePatch}
+use Rattle.read_file_patch.specs.PlainPatch.{change_of, row_count}
+use Rattle.read_patch_text.specs.Changes.{AreCut, SpellChange}
 
 -- a file patch whose span starts at this place, behind so many hunks
 pub record IsPlaced (text : List ℕ) (start before : ℕ) (p : FilePatch) : Type 0 where

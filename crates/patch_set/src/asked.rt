@@ -4,7 +4,7 @@ ghost use Rattle.patch_options.specs.PlainJob.{plain_options};
 ghost use Rattle.patch_set.specs.Asked.{is_posix, admits_unified, is_for_own_names, reads_git, skips_binary, ways_of};
 
 use hunk_core::Form;
-use patch_header::Ways;
+use patch_header::ReadOptions;
 use patch_options::Options;
 
 /// Whether the command has option `--posix`.
@@ -49,10 +49,10 @@ fn skips_binary(options: &Options) -> bool
 }
 
 /// The ways in which a patch text is read for a command.
-pub fn ways_of(options: &Options) -> Ways
+pub fn ways_of(options: &Options) -> ReadOptions
     ensures { result ≡ ways_of (plain_options options.now) }
 {
-    Ways {
+    ReadOptions {
         only: options.only,
         git: reads_git(options),
         skip_binary: skips_binary(options),

@@ -1,12 +1,12 @@
 //! The one name by which a filter knows a file patch.
 ghost use Rattle.std.specs.Prelude.{◌≡◌};
 ghost use Rattle.std.specs.Option.{option_copied, option_or};
-ghost use Rattle.file_patch.specs.PlainPatch.{header_of};
+ghost use Rattle.read_file_patch.specs.PlainPatch.{header_of};
 ghost use Rattle.patch_set.specs.PlainName.{better_of, file_name, plain_name};
 
 use crate::names::bytes_in;
-use header_record::Header;
 use name_choice::is_better;
+use read_header_record::Header;
 
 /// The better one of the old and the new name of a header, or else the name that its file is renamed or copied to, or else
 /// the name of its `Index:` line, or else the empty text.

@@ -3,15 +3,15 @@ ghost use Rattle.std.specs.Prelude.{◌≡◌, ◌↔◌, ◌++◌, ℕ, List, m
 ghost use Rattle.std.specs.List.{AllByRecursion};
 ghost use Rattle.std.specs.Option.{option_to_list};
 ghost use Rattle.hunk_core.specs.declared.Verdict.{Verdict};
-ghost use Rattle.file_patch.specs.PlainPatch.{PlainPatch, row_count};
+ghost use Rattle.read_file_patch.specs.PlainPatch.{PlainPatch, row_count};
 ghost use Rattle.outside.specs.Names.{is_absolute};
 ghost use Rattle.patch_options.specs.PlainJob.{PlainOptions};
-ghost use Rattle.file_patch.specs.Numbered.{is_among};
+ghost use Rattle.read_file_patch.specs.Numbered.{is_among};
 ghost use Rattle.patch_set.specs.declared.set.Row.{Row};
 ghost use Rattle.patch_set.specs.Named.{known_names, patch_names, target_in};
 ghost use Rattle.patch_set.specs.OneView.{AreOne};
 ghost use Rattle.patch_set.specs.SetView.{SetView, IsRead, IsWhole, with_row, with_verdicts, without_marks};
-ghost use Rattle.patch_text.specs.Spelled.{spelled_in, spelled_of};
+ghost use Rattle.read_patch_text.specs.Spelled.{spelled_in, spelled_of};
 
 /// Two targets of a run, the output's among them, have the same number exactly where they have the same name; of one that is
 /// given by an absolute name and one that isn't, only that the same number is the same name.

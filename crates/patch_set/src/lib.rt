@@ -1,5 +1,5 @@
 //! The file patches of a patch text as one set, with their targets, their verdicts and what was done with them. Stands on
-//! `patch_text` and `file_patch`. Begin with `specs/Refusals.antt`, which says what text makes no set, then `src/reading.rt`.
+//! `read_patch_text` and `read_file_patch`. Begin with `specs/Refusals.antt`, which says what text makes no set, then `src/reading.rt`.
 #![tactic(auto)]
 
 mod asked;
@@ -15,7 +15,6 @@ mod skipped;
 
 pub use asked::{is_posix, ways_of};
 pub use fault::SetFault;
-pub use file_patch::{Change, FilePatch, Target};
 pub use header_name::plain_name;
 pub use laws::{
     a_set_in_bytes, bare_headers_have_no_hunk, numbers_tell_targets_apart, one_view,
@@ -23,6 +22,7 @@ pub use laws::{
 };
 pub use marks::are_asked;
 pub use names::{NamedPatches, bytes_in};
+pub use read_file_patch::{Change, FilePatch, Target};
 pub use reading::{give_targets, read_set, whole_text};
 pub use set::{Parts, PatchSet, Row, take_apart, untried};
 pub use skipped::BinaryChange;

@@ -6,9 +6,9 @@ ghost use Rattle.std.specs.Option.{ForSome};
 ghost use Rattle.patch_options.specs.PlainJob.{plain_options};
 ghost use Rattle.patch_set.specs.Room.{are_asked, AreBlank, AreUnmarked, GivesRoom, HasRoom, HaveRoom};
 
-use file_patch::{FilePatch, Target};
-use outside::NameMarks;
+use outside::WrittenNames;
 use patch_options::Options;
+use read_file_patch::{FilePatch, Target};
 use std::alloc::{AllocError, Global};
 
 /// Whether a run can ask for a backup, of which it has to know whether it made or took away the file itself.
@@ -27,7 +27,7 @@ pub fn room_if(
     asked: bool,
     patches: &[FilePatch],
     output: &Option<Target>,
-) -> Result<Option<NameMarks>, AllocError>
+) -> Result<Option<WrittenNames>, AllocError>
     ensures blank { IfOk result (AreBlank patches.now output.now) }
     ensures asked { IfOk result (λ marks. is_some marks ≡ asked) }
 {
@@ -42,11 +42,11 @@ fn room_for(
     alloc: Global,
     patches: &[FilePatch],
     output: &Option<Target>,
-) -> Result<NameMarks, AllocError>
+) -> Result<WrittenNames, AllocError>
     ensures unmarked { IfOk result AreUnmarked }
     ensures room { IfOk result (HaveRoom patches.now output.now) }
 {
-    let mut names = NameMarks::new(alloc);
+    let mut names = WrittenNames::new(alloc);
     for patch in patches {
         add_targets(alloc, &patch.targets, &mut names)?;
     }
@@ -54,7 +54,11 @@ fn room_for(
     Ok(names)
 }
 
-fn add_targets(alloc: Global, targets: &[Target], names: &mut NameMarks) -> Result<(), AllocError>
+fn add_targets(
+    alloc: Global,
+    targets: &[Target],
+    names: &mut WrittenNames,
+) -> Result<(), AllocError>
     ensures gives { OnOk result (GivesRoom names.old names.new) }
     ensures room { OnOk result (All (HasRoom names.new) targets.now) }
 {
@@ -67,7 +71,7 @@ fn add_targets(alloc: Global, targets: &[Target], names: &mut NameMarks) -> Resu
 fn add_output(
     alloc: Global,
     output: &Option<Target>,
-    names: &mut NameMarks,
+    names: &mut WrittenNames,
 ) -> Result<(), AllocError>
     ensures gives { OnOk result (GivesRoom names.old names.new) }
     ensures room { OnOk result (ForSome output.now (HasRoom names.new)) }

@@ -1,22 +1,22 @@
 //! The targets of file patches.
 ghost use Rattle.std.specs.Prelude.{◌≡◌, ◌++◌, ℕ, List, [], IfOk, OnOk, All, length, map};
 ghost use Rattle.std.specs.Option.{ForSome, option_copied, option_to_list};
-ghost use Rattle.file_patch.specs.PlainPatch.{bytes_in, header_of, patch_of};
+ghost use Rattle.read_file_patch.specs.PlainPatch.{bytes_in, header_of, patch_of};
 ghost use Rattle.patch_options.specs.PlainJob.{plain_options, IsLawful};
-ghost use Rattle.file_patch.specs.Candidates.{candidates};
-ghost use Rattle.file_patch.specs.Moved.{moved_names};
-ghost use Rattle.file_patch.specs.Actions.{is_moved};
-ghost use Rattle.file_patch.specs.Numbered.{number_in, with_name, joined_by};
-ghost use Rattle.file_patch.specs.Targets.{target_of, HasTemps};
+ghost use Rattle.read_file_patch.specs.Candidates.{candidates};
+ghost use Rattle.read_file_patch.specs.Moved.{moved_names};
+ghost use Rattle.read_file_patch.specs.Actions.{is_moved};
+ghost use Rattle.read_file_patch.specs.Numbered.{number_in, with_name, joined_by};
+ghost use Rattle.read_file_patch.specs.Targets.{target_of, HasTemps};
 ghost use Rattle.patch_set.specs.Named.{known_names, names_of, output_of, own_names, patch_names, target_in};
 ghost use Rattle.patch_set.specs.Naming.{IsNamed, AreNamed};
 
 use crate::asked::is_posix;
-use file_patch::{FilePatch, Numbers, Target, candidates, moved_names};
-use header_record::{Action, Header};
 use line_list::Span;
 use outside::Name;
 use patch_options::Options;
+use read_file_patch::{FilePatch, Numbers, Target, candidates, moved_names};
+use read_header_record::{Action, Header};
 use std::alloc::{AllocError, Global};
 
 /// File patches with their targets, and the output's target.

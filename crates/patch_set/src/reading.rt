@@ -2,7 +2,7 @@
 ghost use Rattle.std.specs.Prelude.{◌≡◌, ◌<◌, ◌≤◌, ◌^◌, Ok, Err, None, IfOk, OnOk, length, map};
 ghost use Rattle.std.specs.List.{find};
 ghost use Rattle.line_list.specs.Completed.{completed};
-ghost use Rattle.file_patch.specs.PlainPatch.{patch_of};
+ghost use Rattle.read_file_patch.specs.PlainPatch.{patch_of};
 ghost use Rattle.patch_options.specs.PlainJob.{plain_options, IsLawful};
 ghost use Rattle.patch_set.specs.Asked.{ways_of};
 ghost use Rattle.patch_set.specs.Fresh.{AreWhole};
@@ -18,10 +18,10 @@ use crate::marks::are_asked;
 use crate::names::{NamedPatches, name_all};
 use crate::refusals::{refused, reserved};
 use crate::set::{PatchSet, untried};
-use file_patch::FilePatch;
 use line_list::lacks_last_feed;
 use patch_options::Options;
-use patch_text::read_patches;
+use read_file_patch::FilePatch;
+use read_patch_text::read_patches;
 use std::alloc::{AllocError, Global};
 
 /// The longest text that is read, in bytes.

@@ -2,16 +2,16 @@
 ghost use Rattle.std.specs.Prelude.{◌≡◌, ◌<◌, ◌^◌, ◌∷◌, ℕ, List, false, [], length, map, option_map};
 ghost use Rattle.std.specs.List.{find, list_any};
 ghost use Rattle.std.specs.Option.{option_map_or};
-ghost use Rattle.file_patch.specs.PlainPatch.{patch_of};
+ghost use Rattle.read_file_patch.specs.PlainPatch.{patch_of};
 ghost use Rattle.patch_options.specs.PlainJob.{plain_options};
-ghost use Rattle.file_patch.specs.Targets.{is_reserved};
+ghost use Rattle.read_file_patch.specs.Targets.{is_reserved};
 ghost use Rattle.patch_set.specs.Refusals.{first_of, garbage, out_many, ed_reverse};
 ghost use Rattle.patch_set.specs.Looks.{has_script, is_reserving};
 
 use crate::SetFault;
 use crate::names::NamedPatches;
-use file_patch::{Change, FilePatch, Target};
 use patch_options::Options;
+use read_file_patch::{Change, FilePatch, Target};
 
 /// The first of the refusals that need no names.
 pub fn refused(text: &[u8], options: &Options, patches: &[FilePatch]) -> Option<SetFault>

@@ -2,8 +2,8 @@
 ghost use Rattle.std.specs.Prelude.{◌≡◌, ◌<◌, ◌^◌, [], IfOk, is_some, length, map, replicate, slice_index_or};
 ghost use Rattle.std.specs.Option.{ForSome, option_copied};
 ghost use Rattle.hunk_core.specs.declared.Verdict.TheVariants.{Untried};
-ghost use Rattle.file_patch.specs.PlainPatch.{header_of};
-ghost use Rattle.patch_text.specs.Regions.{region_of, regions_of};
+ghost use Rattle.read_file_patch.specs.PlainPatch.{header_of};
+ghost use Rattle.read_patch_text.specs.Regions.{region_of, regions_of};
 ghost use Rattle.patch_set.specs.PlainName.{plain_name};
 ghost use Rattle.patch_set.specs.Skipped.{skipped_changes};
 ghost use Rattle.patch_set.specs.SetView.{IsWhole, first_row, hunks_in, patch_at, with_row, with_verdicts, without_marks};
@@ -14,10 +14,10 @@ use crate::header_name::plain_name;
 use crate::marks::room_if;
 use crate::names::NamedPatches;
 use crate::skipped::{BinaryChange, skipped_changes};
-use file_patch::{FilePatch, Target};
 use hunk_core::{Side, Verdict};
-use outside::NameMarks;
-use patch_header::Ways;
+use outside::WrittenNames;
+use patch_header::ReadOptions;
+use read_file_patch::{FilePatch, Target};
 use std::alloc::{AllocError, Global};
 use std::marker::Model;
 
@@ -37,14 +37,14 @@ pub struct Row {
 #[derive(Drop)]
 pub struct PatchSet {
     text: Vec<u8>,
-    ways: Ways,
+    ways: ReadOptions,
     patches: Vec<FilePatch>,
     output: Option<Target>,
     skipped: Vec<BinaryChange>,
     verdicts: Vec<Verdict>,
     rows: Vec<Row>,
     /// Room for the names that a run makes or takes away. What the set is seen as says whether it is there.
-    marks: Option<NameMarks>,
+    marks: Option<WrittenNames>,
 }
 
 impl Model for PatchSet {
@@ -68,7 +68,7 @@ impl PatchSet {
     }
 
     /// The ways in which the text was read.
-    pub fn ways(&self) -> Ways
+    pub fn ways(&self) -> ReadOptions
         ensures { result ≡ self.now.ways }
     {
         self.ways
@@ -149,7 +149,7 @@ impl PatchSet {
     }
 
     /// Hands out marks at the names that a run can make or take away, if they are there, and leaves none.
-    pub fn take_marks(&mut self) -> Option<NameMarks>
+    pub fn take_marks(&mut self) -> Option<WrittenNames>
         ensures unmarked { ForSome result AreUnmarked }
         ensures room { ForSome result (HaveRoom self.old.patches self.old.output) }
         ensures handed { is_some result ≡ self.old.has_marks }
@@ -163,7 +163,7 @@ impl PatchSet {
 #[derive(Drop)]
 pub struct Parts {
     pub text: Vec<u8>,
-    pub ways: Ways,
+    pub ways: ReadOptions,
     pub named: NamedPatches,
 }
 
@@ -191,14 +191,14 @@ struct Notes {
     skipped: Vec<BinaryChange>,
     verdicts: Vec<Verdict>,
     rows: Vec<Row>,
-    marks: Option<NameMarks>,
+    marks: Option<WrittenNames>,
 }
 
 /// The set of these file patches, of which nothing was tried yet, with room for marks where that is asked for.
 pub fn untried(
     alloc: Global,
     text: Vec<u8>,
-    ways: Ways,
+    ways: ReadOptions,
     named: NamedPatches,
     marks_asked: bool,
 ) -> Result<PatchSet, AllocError>
@@ -223,7 +223,7 @@ pub fn untried(
 }
 
 /// The set with these notes.
-fn noted(text: Vec<u8>, ways: Ways, named: NamedPatches, notes: Notes) -> PatchSet
+fn noted(text: Vec<u8>, ways: ReadOptions, named: NamedPatches, notes: Notes) -> PatchSet
     requires whole { AreWhole ways text.items named.patches.items }
     requires notes { AreFirst ways text.items named.patches.items named.output notes }
     ensures untried { IsUntried text.items ways named result }
@@ -245,7 +245,7 @@ fn noted(text: Vec<u8>, ways: Ways, named: NamedPatches, notes: Notes) -> PatchS
 fn first_notes(
     alloc: Global,
     text: &[u8],
-    ways: Ways,
+    ways: ReadOptions,
     patches: &[FilePatch],
     output: &Option<Target>,
     marks_asked: bool,

@@ -3,15 +3,15 @@ ghost use Rattle.std.specs.Prelude.{◌≡◌, ◌≤◌, ◌&&◌, ◌++◌, �
 ghost use Rattle.std.specs.Option.{option_copied};
 ghost use Rattle.line_list.specs.Lines.{lines};
 ghost use Rattle.patch_header.specs.Content.{content, is_binary};
-ghost use Rattle.file_patch.specs.Candidates.{header_candidate};
-ghost use Rattle.patch_text.specs.Regions.{region_of, regions_of};
+ghost use Rattle.read_file_patch.specs.Candidates.{header_candidate};
+ghost use Rattle.read_patch_text.specs.Regions.{region_of, regions_of};
 ghost use Rattle.patch_set.specs.Skipped.{is_outside, is_image, git_names, names_on, second_half, new_name, change_at, changes_if, skipped_from, skipped_changes};
 
-use file_patch::{FilePatch, candidates};
 use hunk_core::{after_prefix, has_feed};
 use line_list::next_line;
 use outside::Name;
-use patch_header::{Ways, is_binary};
+use patch_header::{ReadOptions, is_binary};
+use read_file_patch::{FilePatch, candidates};
 use std::alloc::{AllocError, Global};
 
 /// A binary change that was passed over.
@@ -27,7 +27,7 @@ pub struct BinaryChange {
 
 /// How far a text was looked through: the place of a line, its number, and the first file patch that doesn't end in front of it.
 #[derive(Clone, Copy)]
-struct Place {
+struct SearchedTo {
     at: usize,
     number: u64,
     next: usize,
@@ -39,7 +39,7 @@ struct Place {
 pub fn skipped_changes(
     alloc: Global,
     text: &[u8],
-    ways: Ways,
+    ways: ReadOptions,
     patches: &[FilePatch],
 ) -> Result<Vec<BinaryChange>, AllocError>
     requires { map region_of patches.now ≡ regions_of ways text.now }
@@ -60,7 +60,7 @@ fn skipped_from(
 {
     let mut found = Vec::new(alloc);
     let mut names: Option<&[u8]> = None;
-    let mut here = Place {
+    let mut here = SearchedTo {
         at: 0,
         number: 1,
         next: 0,
@@ -71,7 +71,7 @@ fn skipped_from(
         let is_skipped = is_skipped(line, is_outside);
         keep_if(alloc, &mut found, is_skipped, here.number, names, line)?;
         names = names_on(names, is_outside, line);
-        here = Place {
+        here = SearchedTo {
             at: end,
             number: here.number + 1,
             next,

@@ -1,6 +1,6 @@
 -- The four kinds of tools are apart. Each pair is shown here, since `cc` in an answer looks through all that is known of a run.
 use Rattle.std.proofs.Common.{◌≡◌}
-use Rattle.patchkit.specs.declared.kind.Kind.TheVariants.{Patch, Filter, Gen, Stack}
+use Rattle.patchkit.specs.declared.kind.ToolKind.TheVariants.{Patch, Filter, Gen, Stack}
 
 pub patch-filter : Patch ≡ Filter → ⊥
 patch-filter never = cc

@@ -5,8 +5,8 @@ use Rattle.outside.specs.SinkView.{SinkView}
 use Rattle.outside.specs.SourceView.{SourceView}
 use Rattle.outside.specs.TreeView.{TreeView}
 use Rattle.patch_run.specs.Applied.{Receipt}
-use Rattle.run_answers.specs.declared.why.Why.{Why}
-use Rattle.stack_cli.specs.InTurn.{Runs}
+use Rattle.cli_run_answers.specs.declared.why.Why.{Why}
+use Rattle.cli_stack.specs.InTurn.{Runs}
 use Rattle.patchkit.specs.Runs.{Devices, RunsFilter}
 
 -- what a filter does, by the names of its answer

@@ -9,29 +9,29 @@ use Rattle.outside.specs.TreeView.{TreeView}
 use Rattle.patch_options.specs.Words.{job_of}
 use Rattle.patch_options.specs.declared.options.WordFault.{WordFault}
 use Rattle.patch_run.specs.Applied.{Receipt}
-use Rattle.run_answers.specs.declared.why.Why.{Why}
-use Rattle.run_answers.specs.declared.why.Why.TheVariants.{Memory}
-use Rattle.run_answers.specs.Answers.{of_words}
-use Rattle.run_answers.specs.Moments.{LeavesOldOrNew}
-use Rattle.run_answers.specs.Worlds as worlds
+use Rattle.cli_run_answers.specs.declared.why.Why.{Why}
+use Rattle.cli_run_answers.specs.declared.why.Why.TheVariants.{Memory}
+use Rattle.cli_run_answers.specs.Answers.{of_words}
+use Rattle.cli_run_answers.specs.Moments.{LeavesOldOrNew}
+use Rattle.cli_run_answers.specs.Worlds as worlds
 use Rattle.patch_run.specs.declared.exit.Exit.{Exit}
 use Rattle.patch_cli.specs.Answers.{IsEarly, sort_of}
 use Rattle.patch_cli.specs.Command.{command}
 use Rattle.patch_cli.specs.Worlds.{World, TellsFiles, TellsLeft, reads_source, uses_scratch}
 use Rattle.patch_cli.specs.Worlds as patch_worlds
 use Rattle.patch_cli.specs.Carries.{Carries, NoneFailed, IsComplete}
-use Rattle.filter_cli.specs.InTurn.{CallRuns, InTurn}
-use Rattle.filter_cli.specs.InTurn as turns
-use Rattle.tool_words.specs.Calls.{calls_of}
-use Rattle.gen_cli.specs.Jobs as gen_jobs
-use Rattle.gen_cli.specs.Carries as gen
+use Rattle.cli_filter.specs.InTurn.{CallRuns, InTurn}
+use Rattle.cli_filter.specs.InTurn as turns
+use Rattle.cli_tool_words.specs.Calls.{calls_of}
+use Rattle.cli_gen.specs.Jobs as gen_jobs
+use Rattle.cli_gen.specs.Carries as gen
 use Rattle.patch_filters.specs.RegexView.{regex_view}
 use Rattle.patch_filters.specs.declared.regex_finder.RegexFinder.{RegexFinder}
-use Rattle.program_answers.specs.Ends as program
-use Rattle.stack_cli.specs.Jobs as stack_jobs
-use Rattle.stack_cli.specs.InTurn as stack
+use Rattle.cli_program_answers.specs.Ends as program
+use Rattle.cli_stack.specs.Jobs as stack_jobs
+use Rattle.cli_stack.specs.InTurn as stack
 use Rattle.patchkit.specs.Kinds.{kind_of}
-use Rattle.patchkit.specs.declared.kind.Kind.TheVariants.{Patch, Filter, Gen, Stack}
+use Rattle.patchkit.specs.declared.kind.ToolKind.TheVariants.{Patch, Filter, Gen, Stack}
 
 -- the devices themselves at one moment, but for standard error
 pub record Devices (T C F I O : Type 0) : Type 0 where
@@ -60,13 +60,13 @@ pub record RunsPatch {T C F I O : Type 0} (words : List (List ℕ)) (u w : World
   pub input : reads_source (job_of words) ≡ false → e.input ≡ d.input
   pub finder : e.finder ≡ d.finder
 
--- what `filter_cli` promises of the filters, call by call; the scratch isn't touched, and there is no receipt
+-- what `cli_filter` promises of the filters, call by call; the scratch isn't touched, and there is no receipt
 pub record RunsFilter {T C F I O : Type 0} (tree : T → TreeView) (finder : F → FinderView) (input : I → SourceView) (out : O → SinkView) (words : List (List ℕ)) (d e : Devices T C F I O) (why : Why) (applied : Option Receipt) : Type 0 where
   pub calls : InTurn (CallRuns tree finder input out) (calls_of words) (turns.devices d.tree d.finder d.input d.out) (turns.devices e.tree e.finder e.input e.out) why
   pub scratch : e.scratch ≡ d.scratch
   pub no_receipt : applied ≡ None
 
--- what `gen_cli` promises of `patchgen`; standard input isn't read, and the finder isn't asked
+-- what `cli_gen` promises of `patchgen`; standard input isn't read, and the finder isn't asked
 pub record RunsGen {T C F I O : Type 0} (words : List (List ℕ)) (u w : worlds.World) (d e : Devices T C F I O) (why : Why) (applied : Option Receipt) : Type 0 where
   pub carries : gen.Carries (gen_jobs.job_of words) u w why applied
   -- words that give no job are answered before any device is called
@@ -77,7 +77,7 @@ pub record RunsGen {T C F I O : Type 0} (words : List (List ℕ)) (u w : worlds.
   pub input : e.input ≡ d.input
   pub finder : e.finder ≡ d.finder
 
--- what `stack_cli` promises of `patchstack`, of one command or of each of those that run in turn; standard input isn't read, the finder isn't
+-- what `cli_stack` promises of `patchstack`, of one command or of each of those that run in turn; standard input isn't read, the finder isn't
 -- asked, and there is no receipt
 pub record RunsStack {T C F I O : Type 0} (tree : T → TreeView) (scratch : C → ScratchView) (out : O → SinkView) (words : List (List ℕ)) (d e : Devices T C F I O) (why : Why) (applied : Option Receipt) : Type 0 where
   pub runs : stack.Runs (stack_jobs.all_of words) (stack.OneRuns tree scratch out (stack_jobs.job_of words)) (stack.devices d.tree d.scratch d.out) (stack.devices e.tree e.scratch e.out) why

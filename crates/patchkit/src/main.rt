@@ -1,13 +1,13 @@
-//! The program: all that its tools do, over real devices. Stands on `program_answers` and the crate of each command (`patch_cli`,
-//! `filter_cli`, `gen_cli`, `stack_cli`). Begin with `src/run_tool.rt` (`run`): its contract is what is proved of the program.
+//! The program: all that its tools do, over real devices. Stands on `cli_program_answers` and the crate of each command (`patch_cli`,
+//! `cli_filter`, `cli_gen`, `cli_stack`). Begin with `src/run_tool.rt` (`run`): its contract is what is proved of the program.
 #![tactic(auto)]
 
 mod kind;
 mod run_tool;
 
+use cli_program_answers::{Ending, Runner, answer, words_of};
 use outside::{Scratch, Sink, Source, Tree};
 use patch_filters::RegexFinder;
-use program_answers::{Ending, Runner, answer, words_of};
 use run_tool::run;
 use std::alloc::Global;
 use std::process::ExitCode;

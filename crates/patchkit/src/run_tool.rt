@@ -1,25 +1,25 @@
 //! The whole run.
 ghost use Rattle.std.specs.Prelude.{◌≡◌, ◌⊎◌, map, false, true, None, Err, string_bytes};
 ghost use Rattle.outside.specs.SinkView.{Receives, ReceivesPart, Rises};
-ghost use Rattle.run_answers.specs.Answers.{exit_status, is_ended, of_words};
-ghost use Rattle.run_answers.specs.Reasons.{refusal_line};
-ghost use Rattle.run_answers.specs.Worlds as worlds;
-ghost use Rattle.stack_cli.specs.Jobs as stack_jobs;
-ghost use Rattle.stack_cli.specs.InTurn as stack_turns;
-ghost use Rattle.gen_cli.specs.Jobs.{job_of, uses_scratch};
-ghost use Rattle.gen_cli.specs.Carries.{Carries};
+ghost use Rattle.cli_run_answers.specs.Answers.{exit_status, is_ended, of_words};
+ghost use Rattle.cli_run_answers.specs.Reasons.{refusal_line};
+ghost use Rattle.cli_run_answers.specs.Worlds as worlds;
+ghost use Rattle.cli_stack.specs.Jobs as stack_jobs;
+ghost use Rattle.cli_stack.specs.InTurn as stack_turns;
+ghost use Rattle.cli_gen.specs.Jobs.{job_of, uses_scratch};
+ghost use Rattle.cli_gen.specs.Carries.{Carries};
 ghost use Rattle.patch_options.specs.declared.options.WordFault.{WordFault};
 ghost use Rattle.patchkit.specs.Kinds.{kind_of};
 ghost use Rattle.patchkit.specs.Runs.{devices, FilterRuns, GenRuns, PatchRuns, StackRuns};
-ghost use Rattle.patchkit.specs.declared.kind.Kind.TheVariants.{Filter, Gen, Patch, Stack};
+ghost use Rattle.patchkit.specs.declared.kind.ToolKind.TheVariants.{Filter, Gen, Patch, Stack};
 
-use crate::kind::{Kind, kind_of};
-use filter_cli::run_filters;
-use gen_cli::run_words;
+use crate::kind::{ToolKind, kind_of};
+use cli_filter::run_filters;
+use cli_gen::run_words;
+use cli_run_answers::{Why, report};
+use cli_stack::run_stack;
 use outside::{Finder, Scratch, Sink, Source, Tree};
 use patch_run::Exit;
-use run_answers::{Why, report};
-use stack_cli::run_stack;
 use std::alloc::Global;
 
 /// Does all that the program does. `words[0]` is the tool.
@@ -51,10 +51,10 @@ pub fn run<T: Tree, C: Scratch, F: Finder, I: Source, O: Sink, E: Sink>(
     ensures err_rest { E.same_rest err.old err.new }
 {
     match kind_of(words) {
-        Kind::Patch => patch_cli::run(alloc, words, tree, scratch, input, out, err),
-        Kind::Filter => run_sifting(alloc, words, tree, scratch, finder, input, out, err),
-        Kind::Gen => run_making(alloc, words, tree, scratch, out, err),
-        Kind::Stack => run_stacking(alloc, words, tree, scratch, out, err),
+        ToolKind::Patch => patch_cli::run(alloc, words, tree, scratch, input, out, err),
+        ToolKind::Filter => run_sifting(alloc, words, tree, scratch, finder, input, out, err),
+        ToolKind::Gen => run_making(alloc, words, tree, scratch, out, err),
+        ToolKind::Stack => run_stacking(alloc, words, tree, scratch, out, err),
     }
 }
 

@@ -4,7 +4,7 @@ ghost use Rattle.line_store.specs.Taking.{IsSize, IsBuffer, IsReset, IsEmpty};
 ghost use Rattle.plan_a.specs.Auto.{auto_seen, auto_counted, small_counted, page_size, goes_to_pages, is_within};
 
 use crate::PlanA;
-use line_store::{Half, LineFault, LineStore, OpenFault, Plan, Stretch};
+use line_store::{Half, LineFault, LineRun, LineStore, OpenFault, Plan};
 use outside::{Name, Tree};
 
 /// The longest file that is held in memory, in bytes.
@@ -87,7 +87,7 @@ impl<P: Plan> LineStore for AutoPlan<P> {
         }
     }
 
-    fn stretch(&self, half: Half, most: u64) -> Stretch<'_> {
+    fn stretch(&self, half: Half, most: u64) -> LineRun<'_> {
         if self.is_big {
             self.big.stretch(half, most)
         } else {

@@ -8,7 +8,7 @@ ghost use Rattle.plan_a.specs.Places.{places_of, Takes};
 ghost use Rattle.plan_a.specs.Taken.{IsCutFault};
 
 use crate::places::Places;
-use line_list::{Feeds, next_line_by};
+use line_list::{LineFeeds, next_line_by};
 use line_store::OpenFault;
 use memchr::memchr_iter;
 use std::alloc::{AllocError, Global};
@@ -23,7 +23,7 @@ pub fn ends_of(alloc: Global, text: &[u8], size: u32) -> Result<Places, OpenFaul
     let most = size.saturating_sub(4) as u64;
     let mut ends = room_for_ends(alloc, text)?;
     let mut at = 0;
-    let mut feeds = Feeds::unknown();
+    let mut feeds = LineFeeds::unknown();
     while let Some(end) = next_line_by(text, at, &mut feeds) {
         let length = (end - at) as u64;
         if length > most {

@@ -12,7 +12,7 @@ mod text;
 
 use crate::text::{Text, take_text};
 pub use auto::{AutoPlan, page_size};
-use line_store::{Half, Halves, LineFault, LineStore, OpenFault, Plan, Stretch};
+use line_store::{Half, Halves, LineFault, LineRun, LineStore, OpenFault, Plan};
 use outside::{Name, Tree};
 use std::alloc::Global;
 
@@ -71,12 +71,12 @@ impl LineStore for PlanA {
     }
 
     /// As many lines as are asked for.
-    fn stretch(&self, half: Half, most: u64) -> Stretch<'_> {
+    fn stretch(&self, half: Half, most: u64) -> LineRun<'_> {
         if let Some(k) = self.halves.get(half) {
             let bytes = self.text.lines_from(k, most);
-            return Stretch { bytes, count: most };
+            return LineRun { bytes, count: most };
         }
-        Stretch {
+        LineRun {
             bytes: &[],
             count: 1,
         }

@@ -13,7 +13,7 @@ use Rattle.page_pair.specs.Pair.{Pair, page_of, IsPair}
 use Rattle.page_pair.specs.Records.{stated, line_in}
 use Rattle.page_pair.specs.Alike.{TellsAlike, FindsFirst}
 use Rattle.plan_b.specs.declared.layout.Layout.{Layout}
-use Rattle.plan_b.specs.declared.spots.Spot.{Spot}
+use Rattle.plan_b.specs.declared.spots.RecordOnPage.{RecordOnPage}
 use Rattle.plan_b.specs.declared.spots.Spots.{Spots}
 use Rattle.plan_b.specs.Layout.{IsLayout, page_number, place_on_page, lines_told}
 use Rattle.plan_b.specs.Held.{HoldsPage, HoldsRecords, IsLoaded, IsHeld}
@@ -34,7 +34,7 @@ div-more a d q lt =
     let f : a + d ≡ a / q * q + (a % q + d) = omega arith in
     ap (λ n. n / q) f ∙ div-mul-add (a / q) q (a % q + d) lt
 
-pub at-spot : (l : Layout) (k : ℕ) (s : Spot) → IsSpot l k s → s.at ≡ place_on_page l (k - 1)
+pub at-spot : (l : Layout) (k : ℕ) (s : RecordOnPage) → IsSpot l k s → s.at ≡ place_on_page l (k - 1)
 at-spot l k s spot = spot.place ∙ ap (λ n. n * l.width) spot.index_
 
 -- what isn't among lines up to one, nor among those from it on
@@ -59,7 +59,7 @@ last-tells lines line page at to k false same none t = λ i low high. elim (case
 ]
 
 -- the record behind one on its page
-pub follows-next : (page : List ℕ) (l : Layout) (k : ℕ) (s t : Spot) → IsLayout l → IsRecord page l k s → s.index + 1 < l.per_page → t.index ≡ s.index + 1 → t.at ≡ s.at + l.width → stated page t.at + 4 ≤ l.width → Follows page l k (k + 1) t
+pub follows-next : (page : List ℕ) (l : Layout) (k : ℕ) (s t : RecordOnPage) → IsLayout l → IsRecord page l k s → s.index + 1 < l.per_page → t.index ≡ s.index + 1 → t.at ≡ s.at + l.width → stated page t.at + 4 ≤ l.width → Follows page l k (k + 1) t
 follows-next page l k s t is record_ lt index at fits =
     let low : 1 ≤ k = record_.low in
     let was : s.index ≡ (k - 1) % l.per_page = record_.spot.index_ in
@@ -82,7 +82,7 @@ follows-next page l k s t is record_ lt index at fits =
     }
 
 -- a record that isn't the first of its page
-pub not-first : (page : List ℕ) (l : Layout) (k : ℕ) (s : Spot) → IsRecord page l k s → 0 < s.index → l.width ≤ s.at
+pub not-first : (page : List ℕ) (l : Layout) (k : ℕ) (s : RecordOnPage) → IsRecord page l k s → 0 < s.index → l.width ≤ s.at
 not-first page l k s record_ some =
     let place : s.at ≡ s.index * l.width = record_.spot.place in
     let e : s.index ≡ s.index - 1 + 1 = omega arith in
@@ -91,7 +91,7 @@ not-first page l k s record_ some =
     omega arith
 
 -- the record before one on its page
-pub follows-before : (page : List ℕ) (l : Layout) (k : ℕ) (s t : Spot) → IsLayout l → IsRecord page l k s → 0 < s.index → t.index ≡ s.index - 1 → t.at ≡ s.at - l.width → stated page t.at + 4 ≤ l.width → Follows page l k (k - 1) t
+pub follows-before : (page : List ℕ) (l : Layout) (k : ℕ) (s t : RecordOnPage) → IsLayout l → IsRecord page l k s → 0 < s.index → t.index ≡ s.index - 1 → t.at ≡ s.at - l.width → stated page t.at + 4 ≤ l.width → Follows page l k (k - 1) t
 follows-before page l k s t is record_ some index at fits =
     let low : 1 ≤ k = record_.low in
     let was : s.index ≡ (k - 1) % l.per_page = record_.spot.index_ in
@@ -117,10 +117,10 @@ follows-before page l k s t is record_ some index at fits =
       };
     }
 
-pub follows-self : (page : List ℕ) (l : Layout) (k : ℕ) (s : Spot) → IsRecord page l k s → Follows page l k k s
+pub follows-self : (page : List ℕ) (l : Layout) (k : ℕ) (s : RecordOnPage) → IsRecord page l k s → Follows page l k k s
 follows-self page l k s record_ = record { page_ = refl; is = record_ }
 
-pub follows-more : (page : List ℕ) (l : Layout) (i j k : ℕ) (s t : Spot) → Follows page l i j s → Follows page l j k t → Follows page l i k t
+pub follows-more : (page : List ℕ) (l : Layout) (i j k : ℕ) (s t : RecordOnPage) → Follows page l i j s → Follows page l j k t → Follows page l i k t
 follows-more page l i j k s t f g = record { page_ = g.page_ ∙ f.page_; is = g.is }
 
 -- a line between two of one page is on it too
@@ -133,11 +133,11 @@ between l k i j is low le most same =
     let n : i - 1 ≡ k - 1 + (i - k) = omega arith in
     ap (λ n. n / l.per_page) n ∙ div-more (k - 1) (i - k) l.per_page (omega arith)
 
-pub next-fits : (page : List ℕ) (l : Layout) (k : ℕ) (s t : Spot) (o : Option Spot) → IsLayout l → IsRecord page l k s → s.index + 1 < l.per_page → t.index ≡ s.index + 1 → t.at ≡ s.at + l.width → IfSome o (λ r. (r ≡ t) × (stated page t.at + 4 ≤ l.width)) → IfSome o (λ r. Follows page l k (k + 1) r)
+pub next-fits : (page : List ℕ) (l : Layout) (k : ℕ) (s t : RecordOnPage) (o : Option RecordOnPage) → IsLayout l → IsRecord page l k s → s.index + 1 < l.per_page → t.index ≡ s.index + 1 → t.at ≡ s.at + l.width → IfSome o (λ r. (r ≡ t) × (stated page t.at + 4 ≤ l.width)) → IfSome o (λ r. Follows page l k (k + 1) r)
 next-fits page l k s t None is record_ lt index at h = tt
 next-fits page l k s t (Some r) is record_ lt index at h = subst (Follows page l k (k + 1)) (sym h.0) (follows-next page l k s t is record_ lt index at h.1)
 
-pub before-fits : (page : List ℕ) (l : Layout) (k : ℕ) (s t : Spot) (o : Option Spot) → IsLayout l → IsRecord page l k s → 0 < s.index → t.index ≡ s.index - 1 → t.at ≡ s.at - l.width → IfSome o (λ r. (r ≡ t) × (stated page t.at + 4 ≤ l.width)) → IfSome o (λ r. Follows page l k (k - 1) r)
+pub before-fits : (page : List ℕ) (l : Layout) (k : ℕ) (s t : RecordOnPage) (o : Option RecordOnPage) → IsLayout l → IsRecord page l k s → 0 < s.index → t.index ≡ s.index - 1 → t.at ≡ s.at - l.width → IfSome o (λ r. (r ≡ t) × (stated page t.at + 4 ≤ l.width)) → IfSome o (λ r. Follows page l k (k - 1) r)
 before-fits page l k s t None is record_ some index at h = tt
 before-fits page l k s t (Some r) is record_ some index at h = subst (Follows page l k (k - 1)) (sym h.0) (follows-before page l k s t is record_ some index at h.1)
 
@@ -148,7 +148,7 @@ there pair l v h k i page ls is records holds same on low high told =
     ∙ line-there pair l v h i ls is records (λ b seen. holds b seen ∙ ap (λ n. take l.size (drop (n * l.size) b)) (sym on)) low high told
 
 -- a record that is reached from the one that a half holds
-pub follows-loaded : (pair : Pair) (l : Layout) (v : ScratchView) (h : Half) (k j : ℕ) (s : Spot) → IsLoaded pair l v h k → Follows (page_of pair h) l k j s → j ≤ l.count → IsLoaded pair l v h j
+pub follows-loaded : (pair : Pair) (l : Layout) (v : ScratchView) (h : Half) (k j : ℕ) (s : RecordOnPage) → IsLoaded pair l v h k → Follows (page_of pair h) l k j s → j ≤ l.count → IsLoaded pair l v h j
 follows-loaded pair l v h k j s loaded f most = record {
   low = f.is.low;
   high = most;
@@ -157,18 +157,18 @@ follows-loaded pair l v h k j s loaded f most = record {
 }
 
 -- the record of the line that a half holds
-pub held-record : (pair : Pair) (l : Layout) (v : ScratchView) (h : Half) (k : ℕ) (s : Spot) → IsLoaded pair l v h k → IsSpot l k s → IsRecord (page_of pair h) l k s
+pub held-record : (pair : Pair) (l : Layout) (v : ScratchView) (h : Half) (k : ℕ) (s : RecordOnPage) → IsLoaded pair l v h k → IsSpot l k s → IsRecord (page_of pair h) l k s
 held-record pair l v h k s loaded spot = record {
   low = loaded.low;
   spot = spot;
   fits = subst (λ n. stated (page_of pair h) n + 4 ≤ l.width) (sym (at-spot l k s spot)) loaded.fits;
 }
 
-pub near-loaded : (pair : Pair) (l : Layout) (halves : Halves) (v : ScratchView) (h : Half) (o : Option ℕ) (k : ℕ) (s : Spot) → IsHeld pair l halves v → half_of halves h ≡ o → IfNear (page_of pair h) l o k (Some s) → k ≤ l.count → IsLoaded pair l v h k
+pub near-loaded : (pair : Pair) (l : Layout) (halves : Halves) (v : ScratchView) (h : Half) (o : Option ℕ) (k : ℕ) (s : RecordOnPage) → IsHeld pair l halves v → half_of halves h ≡ o → IfNear (page_of pair h) l o k (Some s) → k ≤ l.count → IsLoaded pair l v h k
 near-loaded pair l halves v h None k s held is near most = absurd near
 near-loaded pair l halves v h (Some j) k s held is near most = follows-loaded pair l v h j k s (held.loaded h j is) near most
 
-pub near-spot : (page : List ℕ) (l : Layout) (o : Option ℕ) (k : ℕ) (s : Spot) → IfNear page l o k (Some s) → IsSpot l k s
+pub near-spot : (page : List ℕ) (l : Layout) (o : Option ℕ) (k : ℕ) (s : RecordOnPage) → IfNear page l o k (Some s) → IsSpot l k s
 near-spot page l None k s near = absurd near
 near-spot page l (Some j) k s near = near.is.spot
 
@@ -182,7 +182,7 @@ spots-more l hs ht ss st half are halves spots here = λ h k is. each half h her
   each Second Second own others k is = own k is
 
 -- what a pass over a page says of the lines
-pub finds-first : (pair : Pair) (l : Layout) (v : ScratchView) (h : Half) (k j : ℕ) (s : Spot) (page : List ℕ) (lines : List (List ℕ)) (line : List ℕ) (is : Bool) → IsLayout l → HoldsRecords l v → IsLoaded pair l v h k → page ≡ page_of pair h → Follows page l k j s → k ≤ j → j ≤ l.count → lines_told l v.told ≡ Some lines → Misses page l line k j → TellsAlike page line s.at is → FindsFirst lines line k j is
+pub finds-first : (pair : Pair) (l : Layout) (v : ScratchView) (h : Half) (k j : ℕ) (s : RecordOnPage) (page : List ℕ) (lines : List (List ℕ)) (line : List ℕ) (is : Bool) → IsLayout l → HoldsRecords l v → IsLoaded pair l v h k → page ≡ page_of pair h → Follows page l k j s → k ≤ j → j ≤ l.count → lines_told l v.told ≡ Some lines → Misses page l line k j → TellsAlike page line s.at is → FindsFirst lines line k j is
 finds-first pair l v h k j s page lines line is layout records loaded same f order most told misses tells =
     let low : 1 ≤ k = loaded.low in
     first-tells lines line page s.at k j is
@@ -190,7 +190,7 @@ finds-first pair l v h k j s page lines line is layout records loaded same f ord
     (λ i from to alike. misses i from to (there pair l v h k i page lines layout records loaded.page same (between l k i j layout low from (omega arith) f.page_) (omega arith) (omega arith) told ∙ alike))
     tells
 
-pub finds-last : (pair : Pair) (l : Layout) (v : ScratchView) (h : Half) (k j to : ℕ) (s : Spot) (page : List ℕ) (lines : List (List ℕ)) (line : List ℕ) (is : Bool) → IsLayout l → HoldsRecords l v → IsLoaded pair l v h k → page ≡ page_of pair h → Follows page l k j s → j ≤ k → to ≡ k + 1 → lines_told l v.told ≡ Some lines → Misses page l line (j + 1) (k + 1) → TellsAlike page line s.at is → FindsLast lines line to j is
+pub finds-last : (pair : Pair) (l : Layout) (v : ScratchView) (h : Half) (k j to : ℕ) (s : RecordOnPage) (page : List ℕ) (lines : List (List ℕ)) (line : List ℕ) (is : Bool) → IsLayout l → HoldsRecords l v → IsLoaded pair l v h k → page ≡ page_of pair h → Follows page l k j s → j ≤ k → to ≡ k + 1 → lines_told l v.told ≡ Some lines → Misses page l line (j + 1) (k + 1) → TellsAlike page line s.at is → FindsLast lines line to j is
 finds-last pair l v h k j to s page lines line is layout records loaded same f order end told misses tells =
     let low : 1 ≤ j = f.is.low in
     let most : k ≤ l.count = loaded.high in
@@ -200,7 +200,7 @@ finds-last pair l v h k j to s page lines line is layout records loaded same f o
     tells
 
 -- a record lies on its page
-pub record-within : (page : List ℕ) (l : Layout) (k : ℕ) (s : Spot) → IsLayout l → IsRecord page l k s → length page ≡ l.size → s.at + 4 + stated page s.at ≤ length page
+pub record-within : (page : List ℕ) (l : Layout) (k : ℕ) (s : RecordOnPage) → IsLayout l → IsRecord page l k s → length page ≡ l.size → s.at + 4 + stated page s.at ≤ length page
 record-within page l k s is record_ size =
     let within : place_on_page l (k - 1) + l.width ≤ l.size = place-fits l (k - 1) is in
     let place : s.at ≡ place_on_page l (k - 1) = at-spot l k s record_.spot in
@@ -212,20 +212,20 @@ page-length p First is = is.first
 page-length p Second is = is.second
 
 -- a record stands whole on its page, and so does the one behind it
-pub spot-fits : (l : Layout) (k : ℕ) (s : Spot) → IsLayout l → IsSpot l k s → s.at + l.width ≤ l.size
+pub spot-fits : (l : Layout) (k : ℕ) (s : RecordOnPage) → IsLayout l → IsSpot l k s → s.at + l.width ≤ l.size
 spot-fits l k s is spot = omega (arith, at-spot l k s spot, place-fits l (k - 1) is)
 
-pub next-spot-fits : (l : Layout) (k : ℕ) (s : Spot) → IsLayout l → IsSpot l k s → s.index + 1 < l.per_page → (s.at + l.width) + l.width ≤ l.size
+pub next-spot-fits : (l : Layout) (k : ℕ) (s : RecordOnPage) → IsLayout l → IsSpot l k s → s.index + 1 < l.per_page → (s.at + l.width) + l.width ≤ l.size
 next-spot-fits l k s is spot lt = omega (arith, spot.place, row-fits-two l s.index is lt)
 
 -- one more record that isn't this line, behind or before the others
-pub misses-more : (page : List ℕ) (l : Layout) (line : List ℕ) (from now : ℕ) (s : Spot) → IsSpot l now s → line_in page s.at ≢ line → Misses page l line from now → Misses page l line from (now + 1)
+pub misses-more : (page : List ℕ) (l : Layout) (line : List ℕ) (from now : ℕ) (s : RecordOnPage) → IsSpot l now s → line_in page s.at ≢ line → Misses page l line from now → Misses page l line from (now + 1)
 misses-more page l line from now s spot other was i low high e = elim (cases_eq i now) [
   | inl same ↦ other (ap (line_in page) (at-spot l now s spot ∙ ap (λ k. place_on_page l (k - 1)) (sym same)) ∙ e)
   | inr ne ↦ was i low (omega (arith, high, ne)) e
 ]
 
-pub misses-back : (page : List ℕ) (l : Layout) (line : List ℕ) (now to : ℕ) (s : Spot) → IsSpot l now s → line_in page s.at ≢ line → 1 ≤ now → Misses page l line (now + 1) to → Misses page l line (now - 1 + 1) to
+pub misses-back : (page : List ℕ) (l : Layout) (line : List ℕ) (now to : ℕ) (s : RecordOnPage) → IsSpot l now s → line_in page s.at ≢ line → 1 ≤ now → Misses page l line (now + 1) to → Misses page l line (now - 1 + 1) to
 misses-back page l line now to s spot other some was i low high e = elim (cases_eq i now) [
   | inl same ↦ other (ap (line_in page) (at-spot l now s spot ∙ ap (λ k. place_on_page l (k - 1)) (sym same)) ∙ e)
   | inr ne ↦ was i (omega (arith, low, ne, some)) high e

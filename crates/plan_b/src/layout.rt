@@ -5,7 +5,7 @@ ghost use Rattle.plan_b.specs.Layout.{IsLayout, page_number, place_on_page};
 ghost use Rattle.plan_b.specs.Spots.{IsSpot};
 ghost use Rattle.line_store.specs.Taking.{IsSize};
 
-use crate::spots::Spot;
+use crate::spots::RecordOnPage;
 
 /// The records of so many lines, each of one width in bytes, on pages of one size.
 #[derive(Clone, Copy)]
@@ -56,11 +56,11 @@ impl Layout {
     }
 
     /// That record on its page.
-    pub fn spot(&self, k: u64) -> Spot
+    pub fn spot(&self, k: u64) -> RecordOnPage
         requires is { IsLayout self.now }
         ensures { IsSpot self.now (k + 1) result }
     {
-        Spot {
+        RecordOnPage {
             index: k % self.per_page,
             at: self.place_on_page(k),
         }

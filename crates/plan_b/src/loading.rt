@@ -13,7 +13,7 @@ ghost use Rattle.plan_b.specs.Held.{seen_of, IsHeld, IsLoaded, HoldsPage, HoldsR
 ghost use Rattle.page_pair.specs.Held.{HasPageCause};
 
 use crate::layout::Layout;
-use crate::spots::{Spot, Spots};
+use crate::spots::{RecordOnPage, Spots};
 use crate::stepping::near;
 use line_store::{Half, Halves, LineFault};
 use outside::Scratch;
@@ -135,7 +135,7 @@ fn fetch_line<C: Scratch>(
     layout: Layout,
     k: u64,
     half: Half,
-) -> Result<Spot, LineFault>
+) -> Result<RecordOnPage, LineFault>
     requires held { IsHeld pair.old layout halves (C.view scratch.old) }
     requires spots { AreSpots layout halves spots }
     requires low { 1 ≤ k }
@@ -174,7 +174,7 @@ pub fn load_line<C: Scratch>(
     layout: Layout,
     k: u64,
     half: Half,
-) -> Result<Spot, LineFault>
+) -> Result<RecordOnPage, LineFault>
     requires held { IsHeld pair.old layout halves.old (C.view scratch.old) }
     requires spots { AreSpots layout halves.old spots.old }
     requires low { 1 ≤ k }

@@ -8,7 +8,7 @@ use line_store::Half;
 
 /// A record: how many stand before it on its page, and its place there.
 #[derive(Clone, Copy)]
-pub struct Spot {
+pub struct RecordOnPage {
     pub index: u64,
     pub at: usize,
 }
@@ -16,21 +16,21 @@ pub struct Spot {
 /// The record of the line that each half holds, if it holds one.
 #[derive(Clone, Copy)]
 pub struct Spots {
-    pub first: Spot,
-    pub second: Spot,
+    pub first: RecordOnPage,
+    pub second: RecordOnPage,
 }
 
 impl Spots {
     /// Those of halves that hold no line.
     pub fn new() -> Spots {
-        let spot = Spot { index: 0, at: 0 };
+        let spot = RecordOnPage { index: 0, at: 0 };
         Spots {
             first: spot,
             second: spot,
         }
     }
 
-    pub fn get(&self, half: Half) -> Spot
+    pub fn get(&self, half: Half) -> RecordOnPage
         ensures { result ≡ spot_of self.now half }
     {
         match half {
@@ -39,7 +39,7 @@ impl Spots {
         }
     }
 
-    pub fn set(&mut self, half: Half, spot: Spot)
+    pub fn set(&mut self, half: Half, spot: RecordOnPage)
         ensures set { spot_of self.new half ≡ spot }
         ensures other { (h : Half) → h ≢ half → spot_of self.new h ≡ spot_of self.old h }
     {

@@ -7,19 +7,19 @@ ghost use Rattle.plan_b.specs.Spots.{IsRecord, Follows, IfNear, Misses};
 ghost use Rattle.page_pair.specs.Alike.{TellsAlike};
 
 use crate::layout::Layout;
-use crate::spots::Spot;
+use crate::spots::RecordOnPage;
 use page_pair::record::{line_of, stated_length};
 
 /// The line that a pass over a page came to, its record, and whether it is alike.
 #[derive(Clone, Copy)]
 pub struct Pass {
     pub line: u64,
-    pub spot: Spot,
+    pub spot: RecordOnPage,
     pub is_alike: bool,
 }
 
 /// The spot, if its record states no more bytes than fit it.
-fn if_fits(page: &[u8], layout: Layout, spot: Spot) -> Option<Spot>
+fn if_fits(page: &[u8], layout: Layout, spot: RecordOnPage) -> Option<RecordOnPage>
     requires layout { IsLayout layout }
     requires within { spot.at + 4 ≤ length page.now }
     ensures { IfSome result (λ s. (s ≡ spot) × (stated page.now spot.at + 4 ≤ layout.width)) }
@@ -31,7 +31,7 @@ fn if_fits(page: &[u8], layout: Layout, spot: Spot) -> Option<Spot>
 }
 
 /// The record behind that of line `k`.
-fn next_on(page: &[u8], layout: Layout, k: u64, spot: Spot) -> Option<Spot>
+fn next_on(page: &[u8], layout: Layout, k: u64, spot: RecordOnPage) -> Option<RecordOnPage>
     requires layout { IsLayout layout }
     requires size { length page.now ≡ layout.size }
     requires is { IsRecord page.now layout k spot }
@@ -40,7 +40,7 @@ fn next_on(page: &[u8], layout: Layout, k: u64, spot: Spot) -> Option<Spot>
     if spot.index + 1 >= layout.per_page {
         return None;
     }
-    let next = Spot {
+    let next = RecordOnPage {
         index: spot.index + 1,
         at: spot.at + layout.width as usize,
     };
@@ -48,7 +48,7 @@ fn next_on(page: &[u8], layout: Layout, k: u64, spot: Spot) -> Option<Spot>
 }
 
 /// The record before that of line `k`.
-fn spot_before(page: &[u8], layout: Layout, k: u64, spot: Spot) -> Option<Spot>
+fn spot_before(page: &[u8], layout: Layout, k: u64, spot: RecordOnPage) -> Option<RecordOnPage>
     requires layout { IsLayout layout }
     requires size { length page.now ≡ layout.size }
     requires is { IsRecord page.now layout k spot }
@@ -57,7 +57,7 @@ fn spot_before(page: &[u8], layout: Layout, k: u64, spot: Spot) -> Option<Spot>
     if spot.index == 0 {
         return None;
     }
-    let before = Spot {
+    let before = RecordOnPage {
         index: spot.index - 1,
         at: spot.at - layout.width as usize,
     };
@@ -65,7 +65,13 @@ fn spot_before(page: &[u8], layout: Layout, k: u64, spot: Spot) -> Option<Spot>
 }
 
 /// The record of line `k`, where a half holds it, or the one before or behind it on the same page.
-pub fn near(page: &[u8], layout: Layout, held: Option<u64>, spot: Spot, k: u64) -> Option<Spot>
+pub fn near(
+    page: &[u8],
+    layout: Layout,
+    held: Option<u64>,
+    spot: RecordOnPage,
+    k: u64,
+) -> Option<RecordOnPage>
     requires layout { IsLayout layout }
     requires size { length page.now ≡ layout.size }
     requires is { (j : ℕ) → held ≡ Some j → IsRecord page.now layout j spot }
@@ -112,7 +118,14 @@ fn is_alike(page: &[u8], at: usize, line: &[u8]) -> bool
 
 /// Goes on from line `k` to the first one that is alike, at most up to before line `to`. It stops before a record that states
 /// too many bytes.
-pub fn first_pass(page: &[u8], layout: Layout, k: u64, spot: Spot, to: u64, line: &[u8]) -> Pass
+pub fn first_pass(
+    page: &[u8],
+    layout: Layout,
+    k: u64,
+    spot: RecordOnPage,
+    to: u64,
+    line: &[u8],
+) -> Pass
     requires layout { IsLayout layout }
     requires size { length page.now ≡ layout.size }
     requires is { IsRecord page.now layout k spot }
@@ -154,7 +167,14 @@ pub fn first_pass(page: &[u8], layout: Layout, k: u64, spot: Spot, to: u64, line
 
 /// Goes back from line `k` to the last one that is alike, at most to line `from`. It stops before a record that states too
 /// many bytes.
-pub fn last_pass(page: &[u8], layout: Layout, from: u64, k: u64, spot: Spot, line: &[u8]) -> Pass
+pub fn last_pass(
+    page: &[u8],
+    layout: Layout,
+    from: u64,
+    k: u64,
+    spot: RecordOnPage,
+    line: &[u8],
+) -> Pass
     requires layout { IsLayout layout }
     requires size { length page.now ≡ layout.size }
     requires is { IsRecord page.now layout k spot }

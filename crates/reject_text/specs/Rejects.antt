@@ -7,9 +7,9 @@ use Rattle.hunk_core.specs.declared.Verdict.{Verdict}
 use Rattle.hunk_core.specs.declared.Verdict.TheVariants.{Untried, Ignored, Nowhere, At}
 use Rattle.hunk_core.specs.PlainHunk.{PlainHunk}
 use Rattle.hunk_core.specs.Turned.{turned}
-use Rattle.file_patch.specs.declared.Change.{Change}
-use Rattle.file_patch.specs.declared.Change.TheVariants.{Hunks, Script}
-use Rattle.file_patch.specs.PlainPatch.{PlainChange, hunks, script}
+use Rattle.read_file_patch.specs.declared.Change.{Change}
+use Rattle.read_file_patch.specs.declared.Change.TheVariants.{Hunks, Script}
+use Rattle.read_file_patch.specs.PlainPatch.{PlainChange, hunks, script}
 use Rattle.patch_header.specs.Written.{hunk_text}
 use Rattle.reject_text.specs.Headers.{headers}
 use Rattle.reject_text.specs.Starts.{Row, net, moved}

@@ -7,6 +7,6 @@ mod moving;
 mod rejects;
 mod set;
 
-pub use moving::{nets_in_words, placed_growth};
+pub use moving::{nets_laws, placed_growth};
 pub use rejects::put_reject;
 pub use set::put_rejects;

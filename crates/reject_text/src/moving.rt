@@ -51,6 +51,6 @@ pub fn placed_growth(hunk: &Hunk, verdict: Verdict, side: Side) -> i64
 }
 
 /// The net in front of a hunk is the one that placing the hunks there came to.
-pub fn nets_in_words()
+pub fn nets_laws()
     ensures { (lines : List (List ℕ)) (fuzz : ℕ) (loose : Bool) (hs : List PlainHunk) (n : ℕ) → net (take n (zip hs (verdicts lines fuzz loose at_start hs))) ≡ (state_behind lines fuzz loose at_start (take n hs)).net }
 {}

@@ -6,7 +6,7 @@ ghost use Rattle.outside.specs.SinkView.{Writes};
 ghost use Rattle.hunk_core.specs.PlainHunk.{hunk_of, hunks_of};
 ghost use Rattle.hunk_core.specs.Turned.{IsLawful, taken, turned};
 ghost use Rattle.outside.specs.Puts.{Puts};
-ghost use Rattle.file_patch.specs.PlainPatch.{AreLawfulHunks, IsLawfulChange, change_of, row_count};
+ghost use Rattle.read_file_patch.specs.PlainPatch.{AreLawfulHunks, IsLawfulChange, change_of, row_count};
 ghost use Rattle.reject_text.specs.Headers.{IsRejectForm};
 ghost use Rattle.reject_text.specs.Starts.{moved};
 ghost use Rattle.reject_text.specs.Again.{AreUnbroken, AreClean, AreReadAgain};
@@ -15,9 +15,9 @@ ghost use Rattle.patch_header.specs.Written.{hunk_text};
 
 use crate::header::put_headers;
 use crate::moving::{moved_start, placed_growth};
-use file_patch::{Change, FilePatch};
 use hunk_core::{Form, Hunk, Side, Verdict};
 use outside::{Failed, Sink};
+use read_file_patch::{Change, FilePatch};
 
 fn put_in_form<O: Sink>(
     out: &mut O,

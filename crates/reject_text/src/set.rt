@@ -3,16 +3,16 @@
 ghost use Rattle.std.specs.Prelude.{◌≡◌, ◌+◌, ◌<◌, ◌≤◌, ◌^◌, Some, length};
 ghost use Rattle.std.specs.Option.{ForSome};
 ghost use Rattle.outside.specs.SinkView.{Writes};
-ghost use Rattle.file_patch.specs.PlainPatch.{change_of, row_count};
+ghost use Rattle.read_file_patch.specs.PlainPatch.{change_of, row_count};
 ghost use Rattle.patch_set.specs.SetView.{HasVerdicts, IsWhole, patch_at, verdicts_in};
 ghost use Rattle.reject_text.specs.Headers.{IsRejectForm};
 ghost use Rattle.reject_text.specs.Rejects.{AreHunks, hunks_in, reject_text};
 
 use crate::put_reject;
-use file_patch::FilePatch;
 use hunk_core::{Form, Side, Verdict};
 use outside::{Failed, Sink};
 use patch_set::PatchSet;
+use read_file_patch::FilePatch;
 
 fn patch_at(set: &PatchSet, patch: u32) -> &FilePatch
     requires { patch < length set.now.patches }

@@ -9,14 +9,14 @@ use crate::text::{behind, cut, first_number};
 
 /// The entry at the front of a text, and what stands behind it. Where nothing had the name there are no bytes.
 #[derive(Clone, Copy)]
-pub struct Found<'a> {
+pub struct FoundEntry<'a> {
     pub name: &'a [u8],
     pub bytes: Option<&'a [u8]>,
     pub rest: &'a [u8],
 }
 
 /// The entry at the front, whatever its name.
-pub fn first_entry(text: &[u8]) -> Option<Found<'_>>
+pub fn first_entry(text: &[u8]) -> Option<FoundEntry<'_>>
     ensures { option_map found result ≡ first_entry text.now }
 {
     match behind(text, b"none ") {
@@ -26,25 +26,25 @@ pub fn first_entry(text: &[u8]) -> Option<Found<'_>>
 }
 
 // The entry of a name that nothing had, behind its word.
-fn missing(text: &[u8]) -> Option<Found<'_>>
+fn missing(text: &[u8]) -> Option<FoundEntry<'_>>
     ensures { option_map found result ≡ missing (cut text.now) }
 {
     let (name, rest) = cut(text)?;
-    Some(Found {
+    Some(FoundEntry {
         name,
         bytes: None,
         rest,
     })
 }
 
-fn held_or_none(text: &[u8]) -> Option<Found<'_>>
+fn held_or_none(text: &[u8]) -> Option<FoundEntry<'_>>
     ensures { option_map found result ≡ held_or_none (behind (codes "file ") text.now) }
 {
     held(behind(text, b"file ")?)
 }
 
 // The entry of a file, behind its word.
-fn held(text: &[u8]) -> Option<Found<'_>>
+fn held(text: &[u8]) -> Option<FoundEntry<'_>>
     ensures { option_map found result ≡ held (first_number text.now) }
 {
     let (count, rest) = first_number(text)?;
@@ -55,12 +55,12 @@ fn held(text: &[u8]) -> Option<Found<'_>>
 }
 
 // The name's line, so many bytes, and a line feed.
-fn held_file(count: usize, text: &[u8]) -> Option<Found<'_>>
+fn held_file(count: usize, text: &[u8]) -> Option<FoundEntry<'_>>
     ensures { option_map found result ≡ held_file count (cut text.now) }
 {
     let (name, rest) = cut(text)?;
     match rest.get(count) {
-        Some(b'\n') => Some(Found {
+        Some(b'\n') => Some(FoundEntry {
             name,
             bytes: Some(&rest[..count]),
             rest: &rest[count + 1..],

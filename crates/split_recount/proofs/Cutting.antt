@@ -12,11 +12,11 @@ use Rattle.std.proofs.lemmas.List.{append_assoc, drop_all}
 use Rattle.std.proofs.lemmas.Map.Text.{is_eq-slice_cmp}
 use Rattle.std.proofs.lemmas.Option.{same_Some, slice_get-map}
 use Rattle.line_list.specs.declared.Span.{Span}
-use Rattle.file_patch.specs.Numbered.{is_among}
-use Rattle.file_patch.proofs.Names.{are-same}
-use Rattle.file_patch.specs.declared.FilePatch.{FilePatch}
+use Rattle.read_file_patch.specs.Numbered.{is_among}
+use Rattle.read_file_patch.proofs.Names.{are-same}
+use Rattle.read_file_patch.specs.declared.FilePatch.{FilePatch}
 use Rattle.patch_set.specs.SetView.{SetView, patch_at}
-use Rattle.split_recount.specs.declared.parts.Part.{Part}
+use Rattle.split_recount.specs.declared.parts.CurrentPart.{CurrentPart}
 use Rattle.split_recount.specs.Parts.{cuts, cuts_behind, between, parts, row_of, rows_of}
 use Rattle.split_recount.specs.Splitting.{AreNames, Ahead, Goes, begins}
 
@@ -60,12 +60,12 @@ pub none-cut : (every : Bool) (names : List (List ℕ)) → cuts every names [] 
 unfolding cuts
 none-cut every names = refl
 
-module _ (every : Bool) (row : ℕ × List ℕ) (part : Part) (done : List Span) where
+module _ (every : Bool) (row : ℕ × List ℕ) (part : CurrentPart) (done : List Span) where
   same-test : {end : ℕ} {all : List Span} {rows : List (ℕ × List ℕ)} (name : List ℕ) (b : Bool) → name ≡ row.1 → begins every part name ≡ b
       → (a : Ahead every end all (row ∷ rows) part done) → (every || is_among a.names row.1) ≡ b
   same-test name b is test a = ap (λ n. every || is_among a.names n) (sym is) ∙ ap (λ x. every || x) (sym (a.has name)) ∙ test
 
-  pub goes-cut : (next : Part) (more : List Span) (name : List ℕ) (start : ℕ) → name ≡ row.1 → start ≡ row.0 → begins every part name ≡ true
+  pub goes-cut : (next : CurrentPart) (more : List Span) (name : List ℕ) (start : ℕ) → name ≡ row.1 → start ≡ row.0 → begins every part name ≡ true
       → more ≡ done ++ record { start = part.start; end = start } ∷ [] → next.start ≡ start → AreNames (name ∷ []) next.names → Goes every row part done next more
   goes-cut next more name start is at test pushed from has = λ end all rows a.
       let later = cuts every (row.1 ∷ []) rows in
@@ -79,7 +79,7 @@ module _ (every : Bool) (row : ℕ × List ℕ) (part : Part) (done : List Span)
             ∙ ap (λ l. done ++ between part.start l end) (sym cut) ∙ a.both;
       }
 
-  pub goes-in : (next : Part) (name : Bor (List ℕ)) → name.now ≡ row.1 → begins every part name.now ≡ false → next.start ≡ part.start
+  pub goes-in : (next : CurrentPart) (name : Bor (List ℕ)) → name.now ≡ row.1 → begins every part name.now ≡ false → next.start ≡ part.start
       → Updates compare part.names next.names name true → Goes every row part done next done
   goes-in next name is test from updates = λ end all rows a.
       record {
@@ -100,7 +100,7 @@ module _ (every : Bool) (end : ℕ) (rows : List (ℕ × List ℕ)) where
   abbrev pub all_parts : List Span
   all_parts = between 0 (cuts_behind every rows) end
 
-  pub first-row : (row : ℕ × List ℕ) (part : Part) → slice_get rows 0 ≡ Some row → part.start ≡ 0 → AreNames (row.1 ∷ []) part.names
+  pub first-row : (row : ℕ × List ℕ) (part : CurrentPart) → slice_get rows 0 ≡ Some row → part.start ≡ 0 → AreNames (row.1 ∷ []) part.names
       → Ahead every end all_parts (drop 1 rows) part []
   first-row row part is from has =
       record {
@@ -110,14 +110,14 @@ module _ (every : Bool) (end : ℕ) (rows : List (ℕ × List ℕ)) where
             ∙ ap (λ l. between 0 (cuts_behind every l) end) (sym (next-row rows 0 row is));
       }
 
-  pub row-more : (i : ℕ) (row : ℕ × List ℕ) (part next : Part) (done more : List Span) → slice_get rows i ≡ Some row
+  pub row-more : (i : ℕ) (row : ℕ × List ℕ) (part next : CurrentPart) (done more : List Span) → slice_get rows i ≡ Some row
       → Ahead every end all_parts (drop i rows) part done → Goes every row part done next more → Ahead every end all_parts (drop (i + 1) rows) next more
   row-more i row part next done more is a goes =
       let e : suc i ≡ i + 1 = omega arith in
       subst (λ n. Ahead every end all_parts (drop n rows) next more) e
       (goes end all_parts (drop (suc i) rows) (subst (λ l. Ahead every end all_parts l part done) (next-row rows i row is) a))
 
-  pub rows-done : (i : ℕ) (part : Part) (done all : List Span) → length rows ≤ i → Ahead every end all_parts (drop i rows) part done
+  pub rows-done : (i : ℕ) (part : CurrentPart) (done all : List Span) → length rows ≤ i → Ahead every end all_parts (drop i rows) part done
       → all ≡ done ++ record { start = part.start; end = end } ∷ [] → all ≡ all_parts
   rows-done i part done all le a pushed =
       pushed ∙ ap (λ l. done ++ between part.start l end) (sym (ap (cuts every a.names) (drop_all i rows le) ∙ none-cut every a.names)) ∙ a.both

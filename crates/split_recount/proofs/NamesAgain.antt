@@ -5,11 +5,11 @@ use Rattle.std.proofs.lemmas.List.{length-map}
 use Rattle.std.proofs.lemmas.Option.{same_Some}
 use Rattle.std.proofs.lemmas.Bool.{or_cases}
 use Rattle.line_list.specs.declared.Span.{Span}
-use Rattle.file_patch.specs.declared.FilePatch.{FilePatch}
-use Rattle.file_patch.specs.Numbered.{is_among}
-use Rattle.file_patch.proofs.Names.{are-same}
+use Rattle.read_file_patch.specs.declared.FilePatch.{FilePatch}
+use Rattle.read_file_patch.specs.Numbered.{is_among}
+use Rattle.read_file_patch.proofs.Names.{are-same}
 use Rattle.patch_set.specs.PlainName.{plain_name}
-use Rattle.file_patch.specs.PlainPatch.{header_of}
+use Rattle.read_file_patch.specs.PlainPatch.{header_of}
 use Rattle.patch_set.specs.SetView.{SetView, IsWhole, patch_at}
 use Rattle.patch_set.specs.Spans.{ArePlaced}
 use Rattle.split_recount.specs.Parts.{cuts, cuts_behind, between, row_of}

@@ -5,9 +5,9 @@ use Rattle.std.proofs.lemmas.Option.{same_Some}
 use Rattle.std.proofs.lemmas.Bool.{or_parts}
 use Rattle.line_list.specs.declared.Span.{Span}
 use Rattle.hunk_core.specs.Pieces.{AreInTurn}
-use Rattle.file_patch.specs.declared.FilePatch.{FilePatch}
-use Rattle.file_patch.specs.Numbered.{is_among}
-use Rattle.file_patch.proofs.Names.{same-is}
+use Rattle.read_file_patch.specs.declared.FilePatch.{FilePatch}
+use Rattle.read_file_patch.specs.Numbered.{is_among}
+use Rattle.read_file_patch.proofs.Names.{same-is}
 use Rattle.patch_set.specs.Spans.{ArePlaced}
 use Rattle.split_recount.specs.Parts.{cuts, cuts_behind, between, row_of}
 use Rattle.split_recount.specs.PartLaws.{HaveOwnNames}

@@ -8,9 +8,9 @@ use Rattle.std.proofs.lemmas.Option.{same_Some}
 use Rattle.line_list.specs.declared.Span.{Span}
 use Rattle.hunk_core.specs.PlainHunk.{bytes_at}
 use Rattle.hunk_core.specs.Pieces.{AreInTurn}
-use Rattle.file_patch.specs.declared.FilePatch.{FilePatch}
-use Rattle.file_patch.specs.PlainPatch.{row_count}
-use Rattle.file_patch.specs.Numbered.{is_among}
+use Rattle.read_file_patch.specs.declared.FilePatch.{FilePatch}
+use Rattle.read_file_patch.specs.PlainPatch.{row_count}
+use Rattle.read_file_patch.specs.Numbered.{is_among}
 use Rattle.patch_set.specs.SetView.{SetView, IsWhole, patch_at}
 use Rattle.patch_set.specs.Spans.{IsPlaced, ArePlaced}
 use Rattle.split_recount.specs.Parts.{cuts, cuts_behind, between, parts, row_of, rows_of}

@@ -4,8 +4,8 @@ use Rattle.std.specs.List.{flat_map}
 use Rattle.line_list.specs.declared.Span.{Span}
 use Rattle.hunk_core.specs.PlainHunk.{bytes_at}
 use Rattle.hunk_core.specs.Pieces.{AreInTurn}
-use Rattle.file_patch.specs.declared.FilePatch.{FilePatch}
-use Rattle.file_patch.specs.PlainPatch.{header_of}
+use Rattle.read_file_patch.specs.declared.FilePatch.{FilePatch}
+use Rattle.read_file_patch.specs.PlainPatch.{header_of}
 use Rattle.patch_set.specs.PlainName.{plain_name}
 use Rattle.patch_set.specs.SetView.{SetView, IsWhole, patch_at}
 use Rattle.split_recount.specs.Parts.{parts}

@@ -1,9 +1,9 @@
 -- How a text is cut into parts between its file patches (manual page of `splitdiff`).
 use Rattle.std.specs.Prelude.{ℕ, Bool, ◌||◌, ◌==◌, List, [], ◌∷◌, length, map, if◌then◌else◌}
 use Rattle.line_list.specs.declared.Span.{Span}
-use Rattle.file_patch.specs.declared.FilePatch.{FilePatch}
-use Rattle.file_patch.specs.PlainPatch.{header_of}
-use Rattle.file_patch.specs.Numbered.{is_among}
+use Rattle.read_file_patch.specs.declared.FilePatch.{FilePatch}
+use Rattle.read_file_patch.specs.PlainPatch.{header_of}
+use Rattle.read_file_patch.specs.Numbered.{is_among}
 use Rattle.patch_set.specs.PlainName.{plain_name}
 use Rattle.patch_set.specs.SetView.{SetView}
 

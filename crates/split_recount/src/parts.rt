@@ -14,18 +14,18 @@ use std::collections::BTreeSet;
 
 /// Where the current part begins, and the names of its file patches.
 #[derive(Drop)]
-struct Part<'a> {
+struct CurrentPart<'a> {
     start: u32,
     names: BTreeSet<&'a [u8]>,
 }
 
-fn begin<'a>(alloc: Global, start: u32, name: &'a [u8]) -> Result<Part<'a>, AllocError>
+fn begin<'a>(alloc: Global, start: u32, name: &'a [u8]) -> Result<CurrentPart<'a>, AllocError>
     ensures start { IfOk result (λ part. part.start ≡ start) }
     ensures names { IfOk result (λ part. AreNames (name.now ∷ []) part.names) }
 {
     let mut names = BTreeSet::new(alloc);
     match names.insert(name) {
-        Ok(_) => Ok(Part { start, names }),
+        Ok(_) => Ok(CurrentPart { start, names }),
         Err(_) => {
             drop(names);
             Err(AllocError)
@@ -34,7 +34,7 @@ fn begin<'a>(alloc: Global, start: u32, name: &'a [u8]) -> Result<Part<'a>, Allo
 }
 
 /// Whether a file patch with this name begins the next part.
-fn begins<'a>(part: &Part<'a>, every: bool, name: &'a [u8]) -> bool
+fn begins<'a>(part: &CurrentPart<'a>, every: bool, name: &'a [u8]) -> bool
     ensures { result ≡ begins every part.now name.now }
 {
     every || part.names.contains(name)
@@ -46,9 +46,9 @@ fn take<'a>(
     set: &'a PatchSet,
     patch: u32,
     every: bool,
-    part: Part<'a>,
+    part: CurrentPart<'a>,
     parts: &mut Vec<Span>,
-) -> Result<Part<'a>, AllocError>
+) -> Result<CurrentPart<'a>, AllocError>
     requires { patch < length set.now.patches }
     ensures { IfOk result (λ next. ForSome (patch_at set.now patch) (λ p. Goes every (row_of set.now.text p) part.entry parts.old.items next parts.new.items)) }
 {

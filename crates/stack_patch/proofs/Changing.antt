@@ -11,16 +11,16 @@ use Rattle.outside.specs.Quiet.{Effect}
 use Rattle.outside.specs.Quiet.Effect.{Put, Remove}
 use Rattle.hunk_core.specs.declared.Verdict.{Verdict}
 use Rattle.patch_options.specs.PlainJob.{PlainOptions}
-use Rattle.file_patch.specs.declared.derived.Target.{Target}
-use Rattle.patch_task.specs.TargetEffects.{put_if, backup_effects, target_effects, moved_effects, moving_effects}
-use Rattle.patch_task.specs.Asking.{written_place}
-use Rattle.patch_run.specs.OnePatch.{Item, PlainTurn, Start, skips, refuses, tries, Story, Ending, ended, stopped, Tried, no_target, target_at, written_at, written, tried, is_backup_due, is_backup_apart, is_backup_asked, keeps_old, is_old_kept, was_written, is_removal, is_moving, is_written, made_effects, written_effects, has_rejects, rejects_text, reject_effects, effects_of, start, ending_of, ending, bytes_of, lines_in}
+use Rattle.read_file_patch.specs.declared.derived.Target.{Target}
+use Rattle.apply_task.specs.TargetEffects.{put_if, backup_effects, target_effects, moved_effects, moving_effects}
+use Rattle.apply_task.specs.Asking.{written_place}
+use Rattle.patch_run.specs.OnePatch.{Item, PlainContext, Start, skips, refuses, tries, Story, Ending, ended, stopped, Tried, no_target, target_at, written_at, written, tried, is_backup_due, is_backup_apart, is_backup_asked, keeps_old, is_old_kept, was_written, is_removal, is_moving, is_written, made_effects, written_effects, has_rejects, rejects_text, reject_effects, effects_of, start, ending_of, ending, bytes_of, lines_in}
 use Rattle.patch_run.specs.Doing.{effects_in}
 use Rattle.patch_run.specs.Run.{Run, begun, turn_of, with_ending, if_going, with_item, run_on, run_of}
 use Rattle.series_stack.specs.Commands.{changed_by}
 use Rattle.series_stack.proofs.Touching.{within-both}
 use Rattle.stack_patch.specs.Changed.{may_back_up}
-use Rattle.patch_start.proofs.Places.{IsTriedWithin, start_within}
+use Rattle.apply_start.proofs.Places.{IsTriedWithin, start_within}
 
 -- ---- backups
 
@@ -33,7 +33,7 @@ asked false true false true true inexact is = refl
 asked false true false true false inexact is = is
 asked false true false false out inexact is = is
 
-due_asked : (t : PlainTurn) (w other : Target) (vs : List Verdict) → is_backup_due t w other vs ≡ true → may_back_up t.options ≡ true
+due_asked : (t : PlainContext) (w other : Target) (vs : List Verdict) → is_backup_due t w other vs ≡ true → may_back_up t.options ≡ true
 due_asked t w other vs due = asked (was_written t.past w.name) (is_backup_apart t w other) t.options.backup t.options.mismatch_backup (is_none t.options.output) _ due
 
 -- ---- the effects of one file patch
@@ -53,7 +53,7 @@ module _ (Q : List ℕ → Type 0) where
   only_if true name bytes is = (is refl, tt)
   only_if false name bytes is = tt
 
-  module _ (t : PlainTurn) (f : Files) (s w : Target) (x : Tried) (from : IsOpen t.options s) (to : IsOpen t.options w) where
+  module _ (t : PlainContext) (f : Files) (s w : Target) (x : Tried) (from : IsOpen t.options s) (to : IsOpen t.options w) where
     backed : (a b : Target) → IsOpen t.options a → Only (backup_effects (is_backup_due t a b x.verdicts) f a)
     backed a b opens = only_if (is_backup_due t a b x.verdicts) a.backup _ (λ due. opens.backup (due_asked t a b x.verdicts due))
 
@@ -105,7 +105,7 @@ module _ (Q : List ℕ → Type 0) where
   open_at o (x ∷ xs) zero each less = each.0
   open_at o (x ∷ xs) (suc k) each less = open_at o xs k each.1 (omega (arith, less))
 
-  module _ (t : PlainTurn) (each : AreOpen t.options t.item.targets) (outs : (w : Target) → t.output ≡ Some w → IsOpen t.options w) where
+  module _ (t : PlainContext) (each : AreOpen t.options t.item.targets) (outs : (w : Target) → t.output ≡ Some w → IsOpen t.options w) where
     written_open : (k : ℕ) → k < length t.item.targets → IsOpen t.options (written t k)
     written_open k less = by t.output refl
       where
@@ -134,7 +134,7 @@ module _ (Q : List ℕ → Type 0) where
 
   -- ---- the run
 
-  with_only : (t : PlainTurn) (r : Run) (e : Ending) → Only r.effects → Only (effects_in e) → Only (with_ending t r e).effects
+  with_only : (t : PlainContext) (r : Run) (e : Ending) → Only r.effects → Only (effects_in e) → Only (with_ending t r e).effects
   with_only t r (ended s) before here = within-both _ _ _ before here
   with_only t r (stopped said fault) before here = before
 

@@ -8,11 +8,11 @@ use Rattle.std.proofs.lemmas.List.{append-nil, map-append}
 use Rattle.std.proofs.lemmas.List.Concat.{flat_map-append}
 use Rattle.std.proofs.lemmas.List.Folds.{find-append, list_any-append}
 use Rattle.outside.proofs.Components.{neither}
-use Rattle.file_patch.specs.declared.FilePatch.{FilePatch}
-use Rattle.file_patch.specs.PlainPatch.{PlainPatch, header_of, patch_of}
-use Rattle.file_patch.specs.declared.derived.Target.{Target}
-use Rattle.file_patch.specs.Numbered.{is_among, with_name, joined_by, distinct, number_in}
-use Rattle.file_patch.proofs.Names.{all-join, numbers-below, numbers-next, numbers-stay, same-is, with-among, with-new, with-there}
+use Rattle.read_file_patch.specs.declared.FilePatch.{FilePatch}
+use Rattle.read_file_patch.specs.PlainPatch.{PlainPatch, header_of, patch_of}
+use Rattle.read_file_patch.specs.declared.derived.Target.{Target}
+use Rattle.read_file_patch.specs.Numbered.{is_among, with_name, joined_by, distinct, number_in}
+use Rattle.read_file_patch.proofs.Names.{all-join, numbers-below, numbers-next, numbers-stay, same-is, with-among, with-new, with-there}
 use Rattle.series_stack.specs.Saves.{is_of_stack}
 use Rattle.patch_set.specs.Named.{names_of, patch_names, known_names, target_in, targets_of}
 use Rattle.patch_set.specs.SetView.{SetView, IsRead, plain_patches}

@@ -8,13 +8,13 @@ use Rattle.outside.specs.Names.{IsPatchName}
 use Rattle.outside.proofs.Components.{neither}
 use Rattle.line_list.specs.Completed.{completed}
 use Rattle.hunk_core.specs.Reading.{Fault}
-use Rattle.file_patch.specs.PlainPatch.{PlainHeader, PlainPatch}
-use Rattle.file_patch.specs.Targets.{is_reserved}
-use Rattle.file_patch.specs.declared.derived.Target.{Target as FileTarget}
+use Rattle.read_file_patch.specs.PlainPatch.{PlainHeader, PlainPatch}
+use Rattle.read_file_patch.specs.Targets.{is_reserved}
+use Rattle.read_file_patch.specs.declared.derived.Target.{Target as FileTarget}
 use Rattle.patch_run.specs.Outcome.{moved_for}
-use Rattle.file_patch.specs.Numbered.{is_among}
-use Rattle.patch_text.specs.Patches.{patches_of}
-use Rattle.clean_text.specs.Reading.{clean_of}
+use Rattle.read_file_patch.specs.Numbered.{is_among}
+use Rattle.read_patch_text.specs.Patches.{patches_of}
+use Rattle.read_clean_text.specs.Reading.{clean_of}
 use Rattle.patch_set.specs.declared.fault.SetFault.{SetFault}
 use Rattle.patch_set.specs.declared.fault.SetFault.TheVariants as faults
 use Rattle.patch_set.specs.Asked.{ways_of}

@@ -7,18 +7,18 @@ use Rattle.outside.specs.Files.{Files}
 use Rattle.outside.specs.TreeView.{TreeView}
 use Rattle.line_list.specs.Completed.{completed}
 use Rattle.patch_options.specs.PlainJob.{PlainOptions, IsLawful}
-use Rattle.patch_text.specs.Patches.{patches_of}
-use Rattle.clean_text.specs.Reading.{clean_of}
+use Rattle.read_patch_text.specs.Patches.{patches_of}
+use Rattle.read_clean_text.specs.Reading.{clean_of}
 use Rattle.patch_set.specs.declared.fault.SetFault.{SetFault}
 use Rattle.patch_set.specs.declared.fault.SetFault.TheVariants as faults
 use Rattle.patch_set.specs.Asked.{ways_of}
-use Rattle.run_answers.specs.declared.fault.InputFault.{InputFault}
-use Rattle.run_answers.specs.declared.fault.InputFault.TheVariants as inputs
-use Rattle.run_answers.specs.Input.{HasFileCause, answer_of}
+use Rattle.cli_run_answers.specs.declared.fault.InputFault.{InputFault}
+use Rattle.cli_run_answers.specs.declared.fault.InputFault.TheVariants as inputs
+use Rattle.cli_run_answers.specs.Input.{HasFileCause, answer_of}
 use Rattle.patch_set.specs.Refusals.{refusal}
 use Rattle.patch_set.specs.SetView.{SetView, IsRead}
 use Rattle.stack_patch.specs.Reading.{push_options, patch_of_set, patch_in, unless_refused, read_patch}
-use Rattle.clean_text.proofs.LongTexts.{long_refused}
+use Rattle.read_clean_text.proofs.LongTexts.{long_refused}
 use Rattle.stack_patch.proofs.Sets.{set_read}
 use Rattle.stack_patch.proofs.Lawful.{options_lawful}
 use Rattle.stack_patch.specs.declared.PushFault.{PushFault}

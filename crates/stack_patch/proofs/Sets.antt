@@ -4,11 +4,11 @@ use Rattle.std.specs.Prelude.{Result, Ok, Err}
 use Rattle.line_list.specs.Completed.{completed}
 use Rattle.outside.specs.Files.{Files}
 use Rattle.hunk_core.specs.Reading.{Fault}
-use Rattle.file_patch.specs.declared.FilePatch.{FilePatch}
-use Rattle.file_patch.specs.PlainPatch.{PlainPatch, header_of, patch_of}
-use Rattle.file_patch.specs.declared.derived.Target.{Target}
-use Rattle.patch_text.specs.Patches.{patches_of}
-use Rattle.clean_text.specs.Reading.{clean_of}
+use Rattle.read_file_patch.specs.declared.FilePatch.{FilePatch}
+use Rattle.read_file_patch.specs.PlainPatch.{PlainPatch, header_of, patch_of}
+use Rattle.read_file_patch.specs.declared.derived.Target.{Target}
+use Rattle.read_patch_text.specs.Patches.{patches_of}
+use Rattle.read_clean_text.specs.Reading.{clean_of}
 use Rattle.patch_set.specs.declared.fault.SetFault.{SetFault}
 use Rattle.patch_set.specs.Asked.{ways_of}
 use Rattle.patch_set.specs.Named.{known_names, targets_of}

@@ -13,14 +13,14 @@ use Rattle.outside.specs.declared.name.NameRule.{NameRule}
 use Rattle.outside.specs.Names.{broken_rule, normal_form, IsPatchName, IsEnding}
 use Rattle.outside.proofs.Components.{neither}
 use Rattle.outside.proofs.Lawful.{obeys, patch_normal, patch_behind}
-use Rattle.file_patch.specs.Actions.{is_moved}
-use Rattle.file_patch.specs.PlainPatch.{PlainHeader, PlainPatch}
-use Rattle.header_record.specs.Quoted.{name_of}
-use Rattle.file_patch.specs.Stripped.{stripped}
-use Rattle.file_patch.specs.Candidates.{lawful_name, left_if_file, left_name, candidate, header_candidate, header_names, index_names, index_beside, candidates}
-use Rattle.file_patch.specs.Moved.{moved_strip, moved_name, differing, two_names, moved_names}
-use Rattle.file_patch.specs.Numbered.{is_among, with_name, joined_by, distinct}
-use Rattle.file_patch.proofs.Names.{same-is, are-same, all-join}
+use Rattle.read_file_patch.specs.Actions.{is_moved}
+use Rattle.read_file_patch.specs.PlainPatch.{PlainHeader, PlainPatch}
+use Rattle.read_header_record.specs.Quoted.{name_of}
+use Rattle.read_file_patch.specs.Stripped.{stripped}
+use Rattle.read_file_patch.specs.Candidates.{lawful_name, left_if_file, left_name, candidate, header_candidate, header_names, index_names, index_beside, candidates}
+use Rattle.read_file_patch.specs.Moved.{moved_strip, moved_name, differing, two_names, moved_names}
+use Rattle.read_file_patch.specs.Numbered.{is_among, with_name, joined_by, distinct}
+use Rattle.read_file_patch.proofs.Names.{same-is, are-same, all-join}
 use Rattle.series_stack.specs.Undoing.{is_one_of}
 use Rattle.series_stack.specs.Commands.{Target, names_of}
 use Rattle.patch_set.specs.Named.{own_names}

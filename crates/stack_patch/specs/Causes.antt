@@ -3,10 +3,10 @@ use Rattle.std.specs.Prelude.{◌≡◌, ◌⊎◌, List, ℕ, Some}
 use Rattle.std.specs.FinMap.{get}
 use Rattle.outside.specs.Files.{Files}
 use Rattle.outside.specs.TreeView.{TreeView}
-use Rattle.run_answers.specs.declared.fault.InputFault.TheVariants.{NoPatchFile, TooLong, Source, Tree, Disagree}
-use Rattle.run_answers.specs.declared.fault.InputFault.TheVariants as inputs
-use Rattle.run_answers.specs.Input.{HasFileCause}
-use Rattle.clean_text.specs.Reading.{clean_of}
+use Rattle.cli_run_answers.specs.declared.fault.InputFault.TheVariants.{NoPatchFile, TooLong, Source, Tree, Disagree}
+use Rattle.cli_run_answers.specs.declared.fault.InputFault.TheVariants as inputs
+use Rattle.cli_run_answers.specs.Input.{HasFileCause}
+use Rattle.read_clean_text.specs.Reading.{clean_of}
 use Rattle.patch_set.specs.declared.fault.SetFault.TheVariants as faults
 use Rattle.patch_set.specs.Refusals.{refusal}
 use Rattle.stack_patch.specs.Reading.{push_options}

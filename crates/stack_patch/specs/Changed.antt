@@ -2,7 +2,7 @@
 use Rattle.std.specs.Prelude.{ℕ, List, Bool, ◌&&◌, ◌||◌, bytes_eq, is_none}
 use Rattle.std.specs.List.{list_any}
 use Rattle.patch_options.specs.PlainJob.{PlainOptions}
-use Rattle.file_patch.specs.declared.derived.Target.{Target}
+use Rattle.read_file_patch.specs.declared.derived.Target.{Target}
 pub use Rattle.patch_run.specs.Laws.{targets_in}
 
 -- the options ask for backups, always or where a hunk failed or stands elsewhere than it says

@@ -3,7 +3,7 @@ use Rattle.std.specs.Prelude.{◌≡◌, ℕ, List, Some}
 use Rattle.std.specs.FinMap.{get}
 use Rattle.outside.specs.Files.{Files}
 use Rattle.outside.specs.TreeView.{TreeView}
-use Rattle.clean_text.specs.Reading.{clean_of}
+use Rattle.read_clean_text.specs.Reading.{clean_of}
 use Rattle.patch_set.specs.SetView.{SetView, IsRead}
 use Rattle.stack_patch.specs.Reading.{push_options, patch_of_set, read_patch}
 

@@ -12,18 +12,18 @@ use Rattle.patch_options.specs.declared.options.BackupNumbers.TheVariants.{Never
 use Rattle.patch_options.specs.declared.options.FileTimes.TheVariants.{Written}
 use Rattle.patch_options.specs.declared.options.ReadOnlyFiles.TheVariants.{Told}
 use Rattle.patch_options.specs.declared.options.SyncKind.TheVariants.{Each}
-use Rattle.file_patch.specs.Numbered.{is_among}
-use Rattle.file_patch.specs.PlainPatch.{PlainPatch}
-use Rattle.patch_text.specs.Patches.{patches_of}
+use Rattle.read_file_patch.specs.Numbered.{is_among}
+use Rattle.read_file_patch.specs.PlainPatch.{PlainPatch}
+use Rattle.read_patch_text.specs.Patches.{patches_of}
 use Rattle.patch_set.specs.declared.fault.SetFault.{SetFault}
 use Rattle.patch_set.specs.Asked.{ways_of}
-use Rattle.clean_text.specs.Reading.{clean_of}
+use Rattle.read_clean_text.specs.Reading.{clean_of}
 use Rattle.patch_set.specs.Named.{names_of, known_names, target_in, targets_of}
 use Rattle.patch_set.specs.Refusals.{refusal}
 use Rattle.patch_set.specs.SetView.{SetView, plain_patches}
 use Rattle.patch_run.specs.OnePatch.{Item}
 use Rattle.patch_run.specs.Run.{Run, run_of, set_run}
-use Rattle.file_patch.specs.declared.derived.Target.{Target as FileTarget}
+use Rattle.read_file_patch.specs.declared.derived.Target.{Target as FileTarget}
 use Rattle.patch_run.specs.Outcome.{moved_for}
 use Rattle.series_stack.specs.Commands.{Ending, Application, Target, Patch, Reader}
 use Rattle.series_stack.specs.Commands.Ending.{Done, Rejected, CutOff}

@@ -3,8 +3,8 @@ ghost use Rattle.std.specs.Prelude.{◌≡◌, ℕ, List, true, Option, None, So
 ghost use Rattle.std.specs.List.{AllByRecursion};
 ghost use Rattle.outside.specs.Files.{Files};
 ghost use Rattle.patch_options.specs.PlainJob.{PlainOptions, IsLawful};
-ghost use Rattle.file_patch.specs.declared.derived.Target.{Target};
-ghost use Rattle.clean_text.specs.Reading.{clean_of};
+ghost use Rattle.read_file_patch.specs.declared.derived.Target.{Target};
+ghost use Rattle.read_clean_text.specs.Reading.{clean_of};
 ghost use Rattle.patch_set.specs.Refusals.{refusal};
 ghost use Rattle.patch_set.specs.SetView.{SetView, IsRead};
 ghost use Rattle.patch_run.specs.OnePatch.{Item};

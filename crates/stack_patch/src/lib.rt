@@ -8,7 +8,7 @@ ghost use Rattle.std.specs.FinMap.{get};
 ghost use Rattle.outside.specs.Files.{Files};
 ghost use Rattle.outside.specs.Calls.{IsUntouched};
 ghost use Rattle.patch_options.specs.PlainJob.{plain_options};
-ghost use Rattle.clean_text.specs.Reading.{clean_of};
+ghost use Rattle.read_clean_text.specs.Reading.{clean_of};
 ghost use Rattle.patch_set.specs.SetView.{IsRead, IsFresh, IsWhole};
 ghost use Rattle.stack_patch.specs.Reading.{push_options, patch_of_set, read_patch};
 ghost use Rattle.stack_patch.specs.Causes.{HasCause, IsRefusedSo, IsRefusal, RefusesSome};
@@ -17,13 +17,13 @@ ghost use Rattle.stack_patch.specs.Pushes.{IsPush};
 mod laws;
 mod names;
 
-use clean_text::read_clean;
+use cli_run_answers::{InputFault, read_file};
 pub use laws::{names_of_a_run, patches_of_a_stack};
 pub use names::{Saved, saved_names};
 use outside::{Name, Tree};
 use patch_options::{BackupNumbers, FileTimes, Input, Options, PlanKind, ReadOnlyFiles, SyncKind};
 use patch_set::{PatchSet, SetFault};
-use run_answers::{InputFault, read_file};
+use read_clean_text::read_clean;
 use std::alloc::Global;
 
 /// Why the patch isn't read.

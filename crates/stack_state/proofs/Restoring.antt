@@ -20,8 +20,8 @@ use Rattle.series_stack.proofs.Entries.{entries-sound}
 use Rattle.series_stack.proofs.Fronts.{bytes_same}
 use Rattle.series_stack.proofs.Meaning.{put-at}
 use Rattle.series_stack.proofs.Names.{save-lasting, save-own, saved-lasting}
-use Rattle.patch_task.specs.declared.fault.RunFault.{RunFault}
-use Rattle.patch_task.specs.declared.fault.RunFault.TheVariants.{Tree, Memory}
+use Rattle.apply_task.specs.declared.fault.RunFault.{RunFault}
+use Rattle.apply_task.specs.declared.fault.RunFault.TheVariants.{Tree, Memory}
 use Rattle.stack_state.specs.Steps.{TempsStay, IsWhole, Steps}
 use Rattle.stack_state.specs.Undoing.{restored_by, taken_away, undone_by}
 use Rattle.stack_state.proofs.Stepping.{temps-both, temps-same, temps-put, temps-gone}

@@ -16,8 +16,8 @@ use Rattle.outside.proofs.Views.{rises_then, untouched_quiet}
 use Rattle.series_stack.proofs.Steps.{untouched_made}
 use Rattle.outside.proofs.Writing.{received_both, received_none, received_part, part_after, part_longer}
 use Rattle.series_stack.proofs.EffectLists.{after_all-append, leaves_after, tells_after, made_both}
-use Rattle.patch_task.specs.declared.fault.RunFault.{RunFault}
-use Rattle.patch_task.specs.declared.fault.RunFault.TheVariants.{Tree, Write, Scratch, LongLine, FileTooLong, Disagree, Memory}
+use Rattle.apply_task.specs.declared.fault.RunFault.{RunFault}
+use Rattle.apply_task.specs.declared.fault.RunFault.TheVariants.{Tree, Write, Scratch, LongLine, FileTooLong, Disagree, Memory}
 use Rattle.stack_state.specs.Steps.{TempsStay, IsWhole, IsPart, HasStepCause, Steps, said_by}
 
 -- ---- temporary names

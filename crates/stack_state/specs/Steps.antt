@@ -7,8 +7,8 @@ use Rattle.outside.specs.TreeView as tree
 use Rattle.outside.specs.SinkView.{SinkView, SinkPasses, Receives, ReceivesPart}
 use Rattle.outside.specs.SinkView as sink
 use Rattle.outside.specs.Quiet.{IsQuiet, Effect, after_all, HasMade, TellsPrefix, LeavesPrefix}
-use Rattle.patch_task.specs.declared.fault.RunFault.{RunFault}
-use Rattle.patch_task.specs.declared.fault.RunFault.TheVariants.{Tree, Write, Scratch, LongLine, FileTooLong, Disagree, Memory}
+use Rattle.apply_task.specs.declared.fault.RunFault.{RunFault}
+use Rattle.apply_task.specs.declared.fault.RunFault.TheVariants.{Tree, Write, Scratch, LongLine, FileTooLong, Disagree, Memory}
 
 -- each temporary name stands for nothing, or for what it stood for
 abbrev pub TempsStay : Files → Files → Type 0

@@ -16,8 +16,8 @@ ghost use Rattle.stack_state.specs.Undoing.{undone_by};
 use crate::putting::put_count;
 use crate::saying::{said, say_rejected, say_removing, say_restored, say_tally};
 use crate::undoing::undo;
+use apply_task::RunFault;
 use outside::{Name, Sink, Tree};
-use patch_task::RunFault;
 use std::alloc::Global;
 
 /// Undoes what an interrupted command did, by the save of the first patch that isn't applied, and says so, where there is

@@ -9,9 +9,9 @@ ghost use Rattle.series_stack.specs.Stack.{count_name, save_name};
 ghost use Rattle.stack_state.specs.Steps.{Steps};
 
 use crate::{count_name, save_name};
+use apply_task::RunFault;
 use num_text::put_number;
 use outside::{Name, Tree};
-use patch_task::RunFault;
 use replace_file::put_whole;
 use std::alloc::{AllocError, Global};
 

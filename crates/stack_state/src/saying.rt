@@ -6,9 +6,9 @@ ghost use Rattle.series_stack.specs.Outcomes.{said, tally, ending_text};
 ghost use Rattle.series_stack.specs.Commands.Ending.{Rejected};
 ghost use Rattle.stack_state.specs.Steps.{said_by};
 
+use apply_task::RunFault;
 use num_text::put_number;
 use outside::{Failed, Name, Sink, put_all};
-use patch_task::RunFault;
 
 /// The fault of what is said.
 pub fn said(done: Result<(), Failed>) -> Result<(), RunFault>

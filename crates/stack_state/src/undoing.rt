@@ -10,8 +10,8 @@ ghost use Rattle.stack_state.specs.Steps.{Steps};
 ghost use Rattle.stack_state.specs.Undoing.{restored_by, taken_away, undone_by};
 
 use crate::save_name;
+use apply_task::RunFault;
 use outside::{Name, Tree};
-use patch_task::RunFault;
 use replace_file::remove_name;
 use series_stack::{StackFault, restore};
 use std::alloc::Global;

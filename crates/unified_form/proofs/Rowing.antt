@@ -15,8 +15,8 @@ use Rattle.hunk_core.specs.Pieces.{SpansSoFar}
 use Rattle.hunk_core.specs.Following.{IsTaken}
 use Rattle.hunk_core.specs.declared.Hunk.{Hunk}
 use Rattle.hunk_core.specs.Turned.{IsLawful}
-use Rattle.unified_form.specs.declared.skim.Skim.{Skim}
-use Rattle.unified_form.specs.declared.skim.OldRange.{OldRange}
+use Rattle.unified_form.specs.declared.hunk_scan.HunkScan.{HunkScan}
+use Rattle.unified_form.specs.declared.hunk_scan.OldRange.{OldRange}
 use Rattle.unified_form.specs.Grammar.{SpellsHunk}
 use Rattle.unified_form.specs.Hunks.{hunk_at, begins_hunk, reading}
 use Rattle.unified_form.specs.Skimmed.{HasFirst, HasRows, IsRow, IsSkimmed, are_some, old_range, past_hunk}
@@ -79,12 +79,12 @@ pub first-stays : (text : List ℕ) (from : ℕ) (hs : List PlainHunk) (at next 
 first-stays text from [] at next none more first h is some has = absurd (let bad : true ≡ false = sym has.0 ∙ is in cc)
 first-stays text from (x ∷ hs) at next none more first h is some has = (has.0, has.1, are-more hs h, has.3, omega (arith, some, has.4))
 
-pub record SkimmedIs (text : List ℕ) (at line : ℕ) (s : Skim) : Type 0 where
+pub record SkimmedIs (text : List ℕ) (at line : ℕ) (s : HunkScan) : Type 0 where
   pub is : IsSkimmed text line (lines (drop at text)) s
   pub lawful : IsLawful text s.first
   pub some : at < s.end
 
-pub skimmed-is : (text : List ℕ) (at line : ℕ) (none : Bool) (s : Skim) (hs : List PlainHunk) → begins_hunk (lines (drop at text)) ≡ true → reading line (lines (drop at text)) ≡ Ok (hs, ahead s.next (lines (drop s.end text))) → HasFirst text at hs s.end none s.first s.more → SkimmedIs text at line s
+pub skimmed-is : (text : List ℕ) (at line : ℕ) (none : Bool) (s : HunkScan) (hs : List PlainHunk) → begins_hunk (lines (drop at text)) ≡ true → reading line (lines (drop at text)) ≡ Ok (hs, ahead s.next (lines (drop s.end text))) → HasFirst text at hs s.end none s.first s.more → SkimmedIs text at line s
 skimmed-is text at line none s [] opens read has = absurd (reads_some begins_hunk hunk_at SpellsIn grammar line (lines (drop at text)) ([], ahead s.next (lines (drop s.end text))) opens read refl)
 skimmed-is text at line none s (h ∷ hs) opens read has =
     let q : Ahead = ahead s.next (lines (drop s.end text)) in

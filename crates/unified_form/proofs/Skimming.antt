@@ -11,7 +11,7 @@ use Rattle.hunk_core.specs.Refusals.{settled}
 use Rattle.hunk_core.proofs.ReadSteps.{bind_ok, ok_is}
 use Rattle.unified_form.specs.declared.body.Left.{Left}
 use Rattle.unified_form.specs.declared.range.Ranges.{Ranges}
-use Rattle.unified_form.specs.declared.skim.OldRange.{OldRange}
+use Rattle.unified_form.specs.declared.hunk_scan.OldRange.{OldRange}
 use Rattle.unified_form.specs.Ranges.{opening}
 use Rattle.unified_form.specs.Bodies.{is_last_line, marked_at, room_at, ended_by, first_line, line_at, body_at}
 use Rattle.unified_form.specs.Hunks.{at_line, left_of, change, first_hunk}

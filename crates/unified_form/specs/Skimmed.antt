@@ -14,8 +14,8 @@ use Rattle.hunk_core.specs.Reading.{Fault, fault, ◌>>=◌, Ahead, ahead, ahead
 use Rattle.unified_form.specs.declared.body.Left.{Left}
 use Rattle.unified_form.specs.declared.range.Ranges.{Ranges}
 use Rattle.unified_form.specs.declared.rows.HunkRows.{HunkRows}
-use Rattle.unified_form.specs.declared.skim.OldRange.{OldRange}
-use Rattle.unified_form.specs.declared.skim.Skim.{Skim}
+use Rattle.unified_form.specs.declared.hunk_scan.OldRange.{OldRange}
+use Rattle.unified_form.specs.declared.hunk_scan.HunkScan.{HunkScan}
 use Rattle.unified_form.specs.Ranges.{opening}
 use Rattle.unified_form.specs.Bodies.{is_last_line, marked_at, room_at}
 use Rattle.unified_form.specs.Grammar.{IsPiece, SpellsHunk}
@@ -76,7 +76,7 @@ HasFirst text from [] end none first more = (none ≡ true) × (more ≡ false) 
 HasFirst text from (h ∷ hs) end none first more = (none ≡ false) × (h ≡ hunk_of text first) × (more ≡ are_some hs) × IsLawful text first × (from < end)
 
 -- the first of the hunks that these lines begin with, whether there are others, and the place behind them all
-pub record IsSkimmed (text : List ℕ) (number : ℕ) (rest : List (List ℕ)) (s : Skim) : Type 0 where
+pub record IsSkimmed (text : List ℕ) (number : ℕ) (rest : List (List ℕ)) (s : HunkScan) : Type 0 where
   pub others : List PlainHunk
   pub more : s.more ≡ are_some others
   pub read : reading number rest ≡ Ok (hunk_of text s.first ∷ others, ahead s.next (lines (drop s.end text)))

@@ -13,7 +13,7 @@ ghost use Rattle.hunk_core.specs.LineTests.{unended, is_backslash, after_backsla
 use hunk_core::{
     BadKind, FormFault, HunkLine, Mark, Place, backslash_end, bad, begins_backslash, without_feed,
 };
-use line_list::{Feeds, Span, next_line_by};
+use line_list::{LineFeeds, Span, next_line_by};
 use std::alloc::Global;
 
 /// How many lines a body still has on each side.
@@ -121,7 +121,7 @@ fn line_of(
     text: &[u8],
     left: Left,
     place: Place,
-    feeds: &mut Feeds,
+    feeds: &mut LineFeeds,
 ) -> Result<(HunkLine, Left, Place), FormFault>
     requires place { IsPlace text.now place }
     requires feeds { AreFeeds text.now feeds.old }
@@ -166,7 +166,7 @@ fn fill_body(
     left: Left,
     place: Place,
     lines: &mut Vec<HunkLine>,
-    feeds: &mut Feeds,
+    feeds: &mut LineFeeds,
 ) -> Result<Place, FormFault>
     requires place { IsPlace text.now place }
     requires feeds { AreFeeds text.now feeds.old }
@@ -206,7 +206,7 @@ pub fn read_body(
     left: Left,
     place: Place,
     spare: &mut Vec<HunkLine>,
-    feeds: &mut Feeds,
+    feeds: &mut LineFeeds,
 ) -> Result<(Vec<HunkLine>, Place), FormFault>
     requires place { IsPlace text.now place }
     requires feeds { AreFeeds text.now feeds.old }

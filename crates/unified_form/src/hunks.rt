@@ -24,7 +24,7 @@ use crate::range::{opening_of, opens_hunk};
 use hunk_core::{
     BadKind, FormFault, Hunk, HunkForm, HunkLine, Hunks, Place, backslash_end, bad, read_whole,
 };
-use line_list::{Feeds, next_line, next_line_by};
+use line_list::{LineFeeds, next_line, next_line_by};
 use std::alloc::Global;
 
 /// Whether a hunk opens at `at`.
@@ -39,7 +39,7 @@ pub fn at_opening(text: &[u8], at: usize) -> bool
 }
 
 /// The same, with feeds.
-pub fn opens_by(text: &[u8], at: usize, feeds: &mut Feeds) -> bool
+pub fn opens_by(text: &[u8], at: usize, feeds: &mut LineFeeds) -> bool
     requires within { at ≤ length text.now }
     requires feeds { AreFeeds text.now feeds.old }
     ensures feeds { AreFeeds text.now feeds.new }
@@ -60,7 +60,7 @@ fn take_hunk(
     least: u64,
     place: Place,
     spare: &mut Vec<HunkLine>,
-    feeds: &mut Feeds,
+    feeds: &mut LineFeeds,
 ) -> Result<(Hunk, Place), FormFault>
     requires place { IsPlace text.now place }
     requires feeds { AreFeeds text.now feeds.old }
@@ -108,7 +108,7 @@ fn take_hunk(
 #[derive(Drop)]
 pub struct Unified {
     pub spare: Vec<HunkLine>,
-    pub feeds: Feeds,
+    pub feeds: LineFeeds,
 }
 
 impl HunkForm for Unified {
@@ -159,7 +159,7 @@ pub fn read_hunks(alloc: Global, text: &[u8], at: usize, line: u64) -> Result<Hu
 {
     let unified = Unified {
         spare: Vec::new(alloc),
-        feeds: Feeds::unknown(),
+        feeds: LineFeeds::unknown(),
     };
     read_whole(unified, alloc, text, at, line)
 }
@@ -184,7 +184,7 @@ pub fn first_faults()
 {}
 
 /// The tests of the grammar, in the words of the diffutils manual.
-pub fn grammar_in_words()
+pub fn grammar_laws()
     // '@@ -' and a digit.
     ensures opening { (line : List ℕ) → is_opening line ≡ true ↔ ((d : ℕ) × (rest : List ℕ) × (line ≡ 64 ∷ 64 ∷ 32 ∷ 45 ∷ d ∷ rest) × (is_digit d ≡ true)) }
     // A line is the last of each side that it belongs to.

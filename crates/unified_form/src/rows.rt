@@ -8,10 +8,10 @@ ghost use Rattle.hunk_core.specs.Reading.{Fails, IsPlace, ahead_of};
 ghost use Rattle.unified_form.specs.Hunks.{begins_hunk, hunk_at, reading};
 ghost use Rattle.unified_form.specs.Skimmed.{AreRows, HasRows, IsRow};
 
+use crate::hunk_scan::{OldRange, pass_hunk};
 use crate::hunks::opens_by;
-use crate::skim::{OldRange, pass_hunk};
 use hunk_core::{FormFault, HunkWalk, Place, walk};
-use line_list::{Feeds, Span};
+use line_list::{LineFeeds, Span};
 use std::alloc::Global;
 
 /// Hunks without their lines.
@@ -31,7 +31,7 @@ pub fn read_row(
     text: &[u8],
     least: u64,
     place: Place,
-    feeds: &mut Feeds,
+    feeds: &mut LineFeeds,
 ) -> Result<(OldRange, Place), FormFault>
     requires place { IsPlace text.now place }
     requires feeds { AreFeeds text.now feeds.old }
@@ -48,7 +48,7 @@ pub fn read_row(
 struct Rows {
     spans: Vec<Span>,
     olds: Vec<OldRange>,
-    feeds: Feeds,
+    feeds: LineFeeds,
 }
 
 impl HunkWalk for Rows {
@@ -100,7 +100,7 @@ pub fn read_rows(alloc: Global, text: &[u8], at: usize, line: u64) -> Result<Hun
     let mut rows = Rows {
         spans: Vec::new(alloc),
         olds: Vec::new(alloc),
-        feeds: Feeds::unknown(),
+        feeds: LineFeeds::unknown(),
     };
     let end = walk(&mut rows, alloc, text, at, line)?;
     Ok(HunkRows {

@@ -1,5 +1,5 @@
 use Rattle.std.proofs.Common.{◌+◌, ◌-◌, ◌*◌, ◌/◌, ◌%◌, ◌^◌, ap, sym, ◌∙◌}
-use Rattle.patch_gen.specs.Draws.{state_after}
+use Rattle.patch_gen.specs.Lcg.{state_after}
 use Rattle.patch_gen.specs.Tree.{file_state}
 use Rattle.patch_gen.proofs.RunLemmas.{state-one, state-add}
 use Rattle.patch_gen.proofs.draws_follow_one_another.Goals as goal

@@ -1,7 +1,7 @@
 use Rattle.std.proofs.Common.{◌≡◌, ℕ, ◌+◌, ◌-◌, ◌*◌, ◌/◌, ◌++◌, ◌∷◌, [], map, sym, ap, ◌∙◌, arith}
 use Rattle.std.specs.List.{flat_map, range_with_len}
 use Rattle.std.proofs.lemmas.List.FromFn.{map-range_with_len_more}
-use Rattle.patch_gen.specs.Draws.{state_after}
+use Rattle.patch_gen.specs.Lcg.{state_after}
 use Rattle.patch_gen.specs.Texts.{file_line, file_text}
 use Rattle.patch_gen.specs.Patches.{file_patch}
 use Rattle.patch_gen.specs.Tree.{file_state, made_file, made_patch, made}

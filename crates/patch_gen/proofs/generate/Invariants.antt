@@ -1,6 +1,6 @@
 use Rattle.std.proofs.Common.{◌≡◌, ◌+◌, ◌*◌, map}
 use Rattle.std.specs.List.{flat_map, range_with_len}
-use Rattle.patch_gen.specs.Draws.{state_after}
+use Rattle.patch_gen.specs.Lcg.{state_after}
 use Rattle.patch_gen.specs.Tree.{made_file, made_patch}
 use Rattle.patch_gen.proofs.generate.Given as goal
 

@@ -1,5 +1,5 @@
 use Rattle.std.proofs.Common.{◌≡◌, ℕ, ◌+◌, ◌*◌, ◌/◌, ◌%◌, ◌^◌, length, ap, ◌∙◌}
-use Rattle.patch_gen.specs.Draws.{draw}
+use Rattle.patch_gen.specs.Lcg.{draw}
 use Rattle.patch_gen.specs.Texts.{extra_count}
 use Rattle.patch_gen.specs.Tree.{file_state, made_file}
 use Rattle.patch_gen.proofs.RunLemmas.{state-one, state-first}

@@ -3,7 +3,7 @@ use Rattle.std.specs.Prelude.{All}
 use Rattle.line_list.specs.Lines.{lines}
 use Rattle.hunk_core.specs.Turned.{LiesIn}
 use Rattle.hunk_core.specs.Reading.{IsPlace}
-use Rattle.ed_form.specs.declared.added.Part.TheVariants.{Text}
+use Rattle.ed_form.specs.declared.added.TextState.TheVariants.{Text}
 use Rattle.ed_form.specs.PlainEdit.{lines_of}
 use Rattle.ed_form.specs.Texts.{text_at}
 use Rattle.ed_form.proofs.added.read_text.Given as goal

@@ -1,10 +1,10 @@
 use Rattle.std.proofs.Common.{◌≡◌, ◌∙◌, Ok, subst, ap, map, length, arith}
 use Rattle.std.proofs.lemmas.Result.{IfOk-weaker}
 use Rattle.std.proofs.lemmas.Bool.{le-ltb}
-use Rattle.file_patch.specs.PlainPatch.{patch_of}
+use Rattle.read_file_patch.specs.PlainPatch.{patch_of}
 use Rattle.patch_options.specs.PlainJob.{plain_options}
-use Rattle.patch_text.specs.Digests.{AreDigests, digests_of, plain_digests}
-use Rattle.patch_text.specs.Regions.{region_of, regions_of}
+use Rattle.read_patch_text.specs.Digests.{AreDigests, digests_of, plain_digests}
+use Rattle.read_patch_text.specs.Regions.{region_of, regions_of}
 use Rattle.patch_set.specs.Asked.{ways_of}
 use Rattle.patch_set.specs.SetView.{Meets}
 use Rattle.patch_set.proofs.Completing.{completed-length, long-refusal}

@@ -1,6 +1,6 @@
 use Rattle.std.proofs.Common.{◌≡◌, ◌+◌, ◌&&◌, [], suc, get_or, sym, ap, ◌∙◌, arith}
-use Rattle.file_patch.specs.PlainPatch.{change_of}
-use Rattle.tool_words.specs.PlainJobs.{plain_filter_job}
+use Rattle.read_file_patch.specs.PlainPatch.{change_of}
+use Rattle.cli_tool_words.specs.PlainJobs.{plain_filter_job}
 use Rattle.filter_choice.specs.Selected.{is_meant, is_one_meant}
 use Rattle.filter_choice.specs.OldLines.{numbers_of, old_of_each}
 use Rattle.filter_choice.proofs.Rows.{flag-at, olds-there}

@@ -1,5 +1,5 @@
 use Rattle.std.proofs.Common.{◌<◌, subst, ◌^◌, length, sym}
-use Rattle.file_patch.specs.PlainPatch.{row_count}
+use Rattle.read_file_patch.specs.PlainPatch.{row_count}
 use Rattle.line_list.proofs.Elements.{found}
 use Rattle.filter_choice.specs.OldLines.{numbers_of, IsCounted}
 use Rattle.filter_choice.proofs.OldLines.{hunk-at}

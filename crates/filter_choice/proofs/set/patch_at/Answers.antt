@@ -1,8 +1,8 @@
 use Rattle.std.proofs.Common.{◌≡◌, get_or, subst, ◌<◌, length, sym, List}
 use Rattle.line_list.proofs.Elements.{found}
 use Rattle.filter_choice.proofs.Placed.{placed-at}
-use Rattle.file_patch.specs.declared.FilePatch.{FilePatch}
-use Rattle.file_patch.specs.Absent.{IsLawfulPatch}
+use Rattle.read_file_patch.specs.declared.FilePatch.{FilePatch}
+use Rattle.read_file_patch.specs.Absent.{IsLawfulPatch}
 use Rattle.filter_choice.proofs.set.patch_at.Goals as goal
 
 there : (c : goal.After-index-patches-patch) → c.index-patches-patch.result ≡ get_or c.args.set.now.patches c.args.patch c.index-patches-patch.result

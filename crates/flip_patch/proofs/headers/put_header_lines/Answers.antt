@@ -2,7 +2,7 @@ use Rattle.std.proofs.Common.{◌≡◌, get_or, sym, ap, subst, ◌∙◌}
 use Rattle.std.proofs.lemmas.Option.{get_or_from_slice_get}
 use Rattle.line_list.proofs.Elements.{found}
 use Rattle.outside.specs.Puts.{Puts}
-use Rattle.file_patch.specs.PlainPatch.{header_of}
+use Rattle.read_file_patch.specs.PlainPatch.{header_of}
 use Rattle.patch_set.specs.PlainName.{plain_name}
 use Rattle.flip_patch.specs.HeaderText.{header_text}
 use Rattle.flip_patch.proofs.headers.put_header_lines.Goals as goal

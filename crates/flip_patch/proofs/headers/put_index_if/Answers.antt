@@ -3,7 +3,7 @@ use Rattle.std.proofs.lemmas.Result.{err_from_is_err_and}
 use Rattle.outside.specs.declared.Failed.{Failed}
 use Rattle.outside.specs.Puts.{Puts}
 use Rattle.outside.proofs.SinkSteps.{has-none, has-put, puts-done, puts-more, puts-stop}
-use Rattle.file_patch.specs.PlainPatch.{header_of}
+use Rattle.read_file_patch.specs.PlainPatch.{header_of}
 use Rattle.patch_set.specs.PlainName.{plain_name}
 use Rattle.patch_header.specs.Written.{name_end}
 use Rattle.flip_patch.specs.HeaderText.{index_line}

@@ -2,8 +2,8 @@ use Rattle.std.proofs.Common.{◌≡◌, get_or, subst, ◌<◌, List, length, r
 use Rattle.line_list.proofs.Elements.{found}
 use Rattle.flip_patch.proofs.Placed.{placed-at, patch-fits}
 use Rattle.std.proofs.lemmas.Option.{slice_get_read}
-use Rattle.file_patch.specs.Absent.{IsLawfulPatch}
-use Rattle.file_patch.specs.declared.FilePatch.{FilePatch}
+use Rattle.read_file_patch.specs.Absent.{IsLawfulPatch}
+use Rattle.read_file_patch.specs.declared.FilePatch.{FilePatch}
 use Rattle.flip_patch.proofs.patches.patch_at.Goals as goal
 
 pub returns-clause-placed : goal.returns-clause-placed

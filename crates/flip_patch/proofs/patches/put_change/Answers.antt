@@ -1,7 +1,7 @@
 use Rattle.std.proofs.Common.{subst, sym, ℕ, List, ap, ◌∙◌, map}
 use Rattle.std.specs.Prelude.{All}
-use Rattle.file_patch.specs.PlainPatch.{change_of, AreLawfulHunks, IsLawfulChange}
-use Rattle.patch_text.specs.Changes.{SpellChange}
+use Rattle.read_file_patch.specs.PlainPatch.{change_of, AreLawfulHunks, IsLawfulChange}
+use Rattle.read_patch_text.specs.Changes.{SpellChange}
 use Rattle.flip_patch.specs.Ordered.{IsOrdered}
 use Rattle.flip_patch.proofs.Ordered.{all-ordered}
 use Rattle.std.specs.List.{flat_map}
@@ -10,7 +10,7 @@ use Rattle.hunk_core.specs.PlainHunk.{hunks_of}
 use Rattle.hunk_core.specs.Turned.{IsLawful, swapped}
 use Rattle.outside.specs.Puts.{Puts}
 use Rattle.outside.proofs.SinkSteps.{HasPut, has-none, puts-done}
-use Rattle.file_patch.specs.declared.Change.{Change}
+use Rattle.read_file_patch.specs.declared.Change.{Change}
 use Rattle.flip_patch.specs.Flipped.{hunk_text, swapped_hunks}
 use Rattle.flip_patch.proofs.patches.put_change.Goals as goal
 

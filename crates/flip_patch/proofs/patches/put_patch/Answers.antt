@@ -4,9 +4,9 @@ use Rattle.std.proofs.lemmas.Option.{same_Some}
 use Rattle.std.proofs.lemmas.Result.{err_from_is_err_and}
 use Rattle.outside.specs.Puts.{Puts}
 use Rattle.outside.proofs.SinkSteps.{has-put, puts-more, puts-stop}
-use Rattle.file_patch.specs.PlainPatch.{change_of}
+use Rattle.read_file_patch.specs.PlainPatch.{change_of}
 use Rattle.flip_patch.specs.Flipped.{flipped_patch, hunk_text, swapped_hunks}
-use Rattle.file_patch.specs.Absent.{IsLawfulPatch}
+use Rattle.read_file_patch.specs.Absent.{IsLawfulPatch}
 use Rattle.patch_set.specs.Spans.{IsPlaced}
 use Rattle.flip_patch.proofs.patches.put_patch.Goals as goal
 

@@ -1,13 +1,13 @@
 use Rattle.std.proofs.Common.{◌≡◌, sym, ap, subst, false}
 use Rattle.std.specs.Prelude.{Option, MatchOption}
-use Rattle.format_convert.specs.declared.place.Found.{Found}
+use Rattle.format_convert.specs.declared.place.FoundEdit.{FoundEdit}
 use Rattle.format_convert.specs.Fronts.{begins_at}
 use Rattle.format_convert.specs.Walk.{IsFound, IsFoundIn, edit_at, edits_left}
 use Rattle.format_convert.proofs.FrontLemmas.{begins-not}
 use Rattle.format_convert.proofs.block.edit_in.Goals as goal
 
 pub returns-in_err-found : goal.returns-in_err-found
-returns-in_err-found c = subst (λ (o : Option Found). MatchOption o (begins_at c.args.gap (edits_left c.args.kept c.args.place) ≡ false) (IsFoundIn c.args.kept c.args.place c.args.gap)) (sym c.from_residual.ensures) (ap (begins_at c.args.gap) c.in_err-found.ensures)
+returns-in_err-found c = subst (λ (o : Option FoundEdit). MatchOption o (begins_at c.args.gap (edits_left c.args.kept c.args.place) ≡ false) (IsFoundIn c.args.kept c.args.place c.args.gap)) (sym c.from_residual.ensures) (ap (begins_at c.args.gap) c.in_err-found.ensures)
 
 pub returns-else-found-gap : goal.returns-else-found-gap
 returns-else-found-gap c =

@@ -4,7 +4,7 @@ use Rattle.hunk_core.specs.declared.Side.TheVariants.{Forward, Reversed}
 use Rattle.format_convert.specs.Fronts.{front, front_rest}
 use Rattle.format_convert.specs.Walk.{IsBlock, IsFound, IsFoundIn, IsNextBlock, edit_at, edits_left}
 use Rattle.format_convert.specs.declared.block.Block.{Block}
-use Rattle.format_convert.specs.declared.place.Place.{Place}
+use Rattle.format_convert.specs.declared.place.EditCursor.{EditCursor}
 use Rattle.format_convert.proofs.FrontLemmas.{Ended, Grows, Whole, blocks-next, ended, fewer, grows, whole}
 use Rattle.format_convert.proofs.Steps.{few-left}
 use Rattle.format_convert.proofs.block.next_block.Goals as goal
@@ -39,10 +39,10 @@ loop-found-preserved c =
     let first : c.with_edit-block.result.first ≡ c.loop-found.block.first = c.with_edit-block.ensures.first in
     record {
       first = first ∙ i.first;
-      drops = i.drops ∙ g.dropped ∙ ap (λ (p : Place). n.drops + length (front Forward (b.first + n.drops) (edits_left k p))) (sym at) ∙ ap (λ (q : ℕ). n.drops + length (front Forward (q + n.drops) (edits_left k n.behind))) (sym first);
-      adds = i.adds ∙ g.added ∙ ap (λ (p : Place). n.adds + length (front Reversed (b.first + n.drops) (edits_left k p))) (sym at) ∙ ap (λ (q : ℕ). n.adds + length (front Reversed (q + n.drops) (edits_left k n.behind))) (sym first);
-      rest = i.rest ∙ g.rest ∙ ap (λ (p : Place). front_rest (b.first + n.drops) (edits_left k p)) (sym at) ∙ ap (λ (q : ℕ). front_rest (q + n.drops) (edits_left k n.behind)) (sym first);
-      counted = ap (λ (p : Place). n.drops + n.adds + length (edits_left k p)) at ∙ sym g.counted ∙ i.counted;
+      drops = i.drops ∙ g.dropped ∙ ap (λ (p : EditCursor). n.drops + length (front Forward (b.first + n.drops) (edits_left k p))) (sym at) ∙ ap (λ (q : ℕ). n.drops + length (front Forward (q + n.drops) (edits_left k n.behind))) (sym first);
+      adds = i.adds ∙ g.added ∙ ap (λ (p : EditCursor). n.adds + length (front Reversed (b.first + n.drops) (edits_left k p))) (sym at) ∙ ap (λ (q : ℕ). n.adds + length (front Reversed (q + n.drops) (edits_left k n.behind))) (sym first);
+      rest = i.rest ∙ g.rest ∙ ap (λ (p : EditCursor). front_rest (b.first + n.drops) (edits_left k p)) (sym at) ∙ ap (λ (q : ℕ). front_rest (q + n.drops) (edits_left k n.behind)) (sym first);
+      counted = ap (λ (p : EditCursor). n.drops + n.adds + length (edits_left k p)) at ∙ sym g.counted ∙ i.counted;
     }
 
 pub loop-found-smaller : goal.loop-found-smaller
@@ -50,7 +50,7 @@ loop-found-smaller c =
     let k = c.args.kept in
     let f : IsFoundIn c.args.kept c.loop-found.block.behind (c.loop-found.block.first + c.loop-found.block.drops) c.in-Some.found = c.in-Some.ensures in
     let at : c.with_edit-block.result.behind ≡ c.in-Some.found.behind = c.with_edit-block.ensures.behind in
-    omega (arith, ap length f.found.left, ap (λ (p : Place). length (edits_left k p)) at)
+    omega (arith, ap length f.found.left, ap (λ (p : EditCursor). length (edits_left k p)) at)
 
 pub returns : goal.returns
 returns c =

@@ -1,9 +1,9 @@
 use Rattle.std.proofs.Common.{not, eqb, length, sym, ap, ◌∙◌, subst}
 use Rattle.std.proofs.lemmas.Option.{same_Some}
-use Rattle.file_patch.specs.declared.Change.{Change}
-use Rattle.file_patch.specs.declared.FilePatch.{FilePatch}
-use Rattle.file_patch.specs.PlainPatch.{PlainChange, change_of, patch_of}
-use Rattle.tool_words.specs.PlainJobs.{plain_filter_job}
+use Rattle.read_file_patch.specs.declared.Change.{Change}
+use Rattle.read_file_patch.specs.declared.FilePatch.{FilePatch}
+use Rattle.read_file_patch.specs.PlainPatch.{PlainChange, change_of, patch_of}
+use Rattle.cli_tool_words.specs.PlainJobs.{plain_filter_job}
 use Rattle.format_convert.specs.Blocks.{blocks_in, blocks_of}
 use Rattle.format_convert.specs.Taken.{flags, left_change}
 use Rattle.format_convert.proofs.Rows.{left-of}

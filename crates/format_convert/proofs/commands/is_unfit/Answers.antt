@@ -2,12 +2,12 @@ use Rattle.std.proofs.Common.{◌≡◌, ◌&&◌, ℕ, List, Bool, true, false,
 use Rattle.hunk_core.specs.declared.Form.{Form}
 use Rattle.ed_form.specs.declared.script.EdScript.{EdScript}
 use Rattle.ed_form.specs.PlainEdit.{IsLawfulScript, edits_of}
-use Rattle.file_patch.specs.declared.Change.TheVariants.{Script}
+use Rattle.read_file_patch.specs.declared.Change.TheVariants.{Script}
 use Rattle.std.proofs.lemmas.Option.{same_Some}
-use Rattle.file_patch.specs.declared.Change.{Change}
-use Rattle.file_patch.specs.declared.FilePatch.{FilePatch}
-use Rattle.file_patch.specs.PlainPatch.{IsLawfulChange, change_of, patch_of}
-use Rattle.tool_words.specs.PlainJobs.{plain_filter_job}
+use Rattle.read_file_patch.specs.declared.Change.{Change}
+use Rattle.read_file_patch.specs.declared.FilePatch.{FilePatch}
+use Rattle.read_file_patch.specs.PlainPatch.{IsLawfulChange, change_of, patch_of}
+use Rattle.cli_tool_words.specs.PlainJobs.{plain_filter_job}
 use Rattle.format_convert.specs.Fitting.{is_ed, is_unfit}
 use Rattle.format_convert.proofs.SmallLemmas.{script-small}
 use Rattle.format_convert.specs.Taken.{flags, left_change}

@@ -5,10 +5,10 @@ use Rattle.hunk_core.specs.declared.Form.TheVariants.{Normal, Ed}
 use Rattle.outside.specs.Puts.{Puts}
 use Rattle.outside.proofs.SinkSteps.{HasPut, has-none, puts-done}
 use Rattle.ed_form.specs.PlainEdit.{edits_of, IsLawfulScript}
-use Rattle.file_patch.specs.declared.Change.{Change}
-use Rattle.file_patch.specs.declared.FilePatch.{FilePatch}
-use Rattle.file_patch.specs.PlainPatch.{PlainChange, change_of, patch_of, script, IsLawfulChange}
-use Rattle.tool_words.specs.PlainJobs.{plain_filter_job}
+use Rattle.read_file_patch.specs.declared.Change.{Change}
+use Rattle.read_file_patch.specs.declared.FilePatch.{FilePatch}
+use Rattle.read_file_patch.specs.PlainPatch.{PlainChange, change_of, patch_of, script, IsLawfulChange}
+use Rattle.cli_tool_words.specs.PlainJobs.{plain_filter_job}
 use Rattle.format_convert.specs.Commands.{command_text}
 use Rattle.format_convert.specs.Taken.{flags, left_change, left_patch}
 use Rattle.format_convert.proofs.Rows.{left-of}

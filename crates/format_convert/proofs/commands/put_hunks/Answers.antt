@@ -2,7 +2,7 @@ use Rattle.std.proofs.Common.{ℕ, List, [], sym, ap, subst}
 use Rattle.hunk_core.specs.declared.Form.{Form}
 use Rattle.outside.specs.Puts.{Puts}
 use Rattle.outside.proofs.SinkSteps.{HasPut, has-none, puts-done}
-use Rattle.file_patch.specs.PlainPatch.{hunks}
+use Rattle.read_file_patch.specs.PlainPatch.{hunks}
 use Rattle.format_convert.specs.Commands.{command_text}
 use Rattle.format_convert.specs.Walk.{left_hunks}
 use Rattle.format_convert.proofs.commands.put_hunks.Goals as goal

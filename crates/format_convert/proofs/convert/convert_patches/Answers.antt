@@ -1,6 +1,6 @@
 use Rattle.std.proofs.Common.{sym, ◌∙◌}
 use Rattle.patch_set.specs.SetView.{plain_patches}
-use Rattle.tool_words.specs.PlainJobs.{plain_filter_job}
+use Rattle.cli_tool_words.specs.PlainJobs.{plain_filter_job}
 use Rattle.format_convert.specs.Taken.{left_patches}
 use Rattle.format_convert.specs.Converted.{converted}
 use Rattle.format_convert.proofs.ConvertLemmas.{converts-cut, converts-done, converts-refused}

@@ -10,7 +10,7 @@ use Rattle.format_convert.specs.Walk.{IsFoundIn, edit_at, edits_left}
 use Rattle.std.proofs.lemmas.List.{append-nil}
 use Rattle.std.proofs.lemmas.Result.{err_from_is_err_and}
 use Rattle.outside.proofs.Exits.{if_ok_none}
-use Rattle.format_convert.specs.declared.place.Place.{Place}
+use Rattle.format_convert.specs.declared.place.EditCursor.{EditCursor}
 use Rattle.format_convert.proofs.EdLemmas.{not-keep}
 use Rattle.format_convert.proofs.FrontLemmas.{begins-some}
 use Rattle.format_convert.proofs.ed.put_behind.Goals as goal
@@ -38,7 +38,7 @@ returns-in_err-put_next-in-Drop g c =
     let begins = begins-some c.edit_in.result c.args.next es (IsFoundIn k c.args.front c.args.next) (λ f is. (edit_at k.set.now.text f.edit, edits_left k f.behind, is.found.left, is.here)) c.edit_in.ensures in
     let away : begins_at c.args.next (edits_left c.args.kept c.args.front) ≡ false = sym (c.is_some.ensures ∙ begins) ∙ c.if-is_some.false in
     record {
-      put = rw p.1 (subst (λ (bs : List ℕ). Puts {R = Place} g.O.Sink.view g.O.Sink.same_rest c.args.out.now c.put_next.new.out (Err p.0) bs)
+      put = rw p.1 (subst (λ (bs : List ℕ). Puts {R = EditCursor} g.O.Sink.view g.O.Sink.same_rest c.args.out.now c.put_next.new.out (Err p.0) bs)
           (append-nil (first_text (blocks_of es)) ∙ ap (λ (b : Bool). cond b [] (first_text (blocks_of es))) (sym away) ∙ ap (λ (b : Bool). cond b [] (closing c.args.next es)) (sym changes))
           (puts-stop c.in_err-put_next-in-Drop.field-0.0 p.0 [] c.in_err-put_next-in-Drop.ensures));
       place = if_ok_none _ _ c.from_residual.result c.from_residual.ensures.1;

@@ -12,7 +12,7 @@ use Rattle.hunk_core.proofs.TurnedLemmas.{turned-base}
 use Rattle.format_convert.specs.Backward.{closing_if, grown}
 use Rattle.format_convert.specs.Blocks.{Edit, body_edits}
 use Rattle.format_convert.specs.Walk.{edits_of, pairs}
-use Rattle.format_convert.specs.declared.place.Place.{Place}
+use Rattle.format_convert.specs.declared.place.EditCursor.{EditCursor}
 use Rattle.format_convert.proofs.EdLemmas.{ahead, count-next, front-is, grown-more, grown-none, grown-rest, one-more, one-on, Back, back}
 use Rattle.format_convert.proofs.Steps.{edits-none, hunk-ahead}
 use Rattle.std.specs.Prelude.{vec_len}
@@ -91,7 +91,7 @@ returns-in_err-front-clause-put g c =
     back own items n i l next q at lt c.index.ensures c.loop-line.invariant.next c.next_before.ensures in
     let more = grown (body_edits own (body_of text (take i items))) (body_edits q (body_of text (drop i items)) ++ left) in
     let whole = grown-rest text items i own q left b.stands ∙ ap (λ (t : List ℕ). t ++ more) (grown-more text items n i q next l left at lt c.index.ensures b.wide) in
-    let put = subst (λ (es : List Edit). Puts {R = Place} g.O.Sink.view g.O.Sink.same_rest c.loop-line.out c.put_behind.new.out (Err c.in_err-front.field-0.0) (closing_if l.mark next es)) c.loop-line.invariant.front c.in_err-front.ensures.put in
+    let put = subst (λ (es : List Edit). Puts {R = EditCursor} g.O.Sink.view g.O.Sink.same_rest c.loop-line.out c.put_behind.new.out (Err c.in_err-front.field-0.0) (closing_if l.mark next es)) c.loop-line.invariant.front c.in_err-front.ensures.put in
     rw (p.1, whole) (puts-stop c.in_err-front.field-0.0 p.0 more (puts-more g.met.O.Sink.rest_both c.loop-line.invariant.put put))
 
 pub returns-clause-put : goal.returns-clause-put

@@ -5,7 +5,7 @@ use Rattle.hunk_core.specs.PlainHunk.{Marked, bytes_at, marked_of}
 use Rattle.hunk_core.specs.Rules.{lacks_inner_end}
 use Rattle.format_convert.specs.Fitting.{is_own, own_lines}
 use Rattle.format_convert.specs.Seeing.{Sees, ends_open}
-use Rattle.format_convert.specs.declared.fitting.Seen.{Seen}
+use Rattle.format_convert.specs.declared.fitting.OpenEnds.{OpenEnds}
 use Rattle.format_convert.proofs.FitLemmas.{ends-last, lacks-last, own-none, own-some}
 use Rattle.format_convert.proofs.fitting.seen_line.Goals as goal
 

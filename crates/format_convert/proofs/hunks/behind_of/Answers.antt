@@ -2,8 +2,8 @@ use Rattle.std.proofs.Common.{◌≡◌, ◌<◌, ◌≤◌, ℕ, List, [], get_
 use Rattle.std.proofs.lemmas.Option.{same_Some}
 use Rattle.line_list.proofs.Elements.{found}
 use Rattle.hunk_core.specs.PlainHunk.{bytes_at}
-use Rattle.file_patch.specs.declared.FilePatch.{FilePatch}
-use Rattle.file_patch.specs.PlainPatch.{row_count}
+use Rattle.read_file_patch.specs.declared.FilePatch.{FilePatch}
+use Rattle.read_file_patch.specs.PlainPatch.{row_count}
 use Rattle.filter_choice.proofs.Placed.{span-in, turn-with}
 use Rattle.format_convert.specs.Behind.{behind_in}
 use Rattle.format_convert.specs.Converted.{pieces}

@@ -3,9 +3,9 @@ use Rattle.std.proofs.lemmas.Result.{err_from_is_err_and}
 use Rattle.hunk_core.specs.declared.Hunk.{Hunk}
 use Rattle.hunk_core.specs.PlainHunk.{hunk_of, hunks_of}
 use Rattle.hunk_core.specs.Turned.{IsLawful}
-use Rattle.file_patch.specs.PlainPatch.{patch_of}
+use Rattle.read_file_patch.specs.PlainPatch.{patch_of}
 use Rattle.filter_choice.specs.Kept.{keeps}
-use Rattle.tool_words.specs.PlainJobs.{plain_filter_job}
+use Rattle.cli_tool_words.specs.PlainJobs.{plain_filter_job}
 use Rattle.format_convert.specs.Taken.{flags}
 use Rattle.format_convert.proofs.Parts.{written-all, written-more, written-none, written-stop}
 use Rattle.std.specs.List.{zip}

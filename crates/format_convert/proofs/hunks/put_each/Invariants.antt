@@ -1,9 +1,9 @@
 use Rattle.std.proofs.Common.{◌≡◌, Some}
 use Rattle.hunk_core.specs.PlainHunk.{hunks_of}
-use Rattle.file_patch.specs.declared.FilePatch.{FilePatch}
-use Rattle.file_patch.specs.PlainPatch.{patch_of}
+use Rattle.read_file_patch.specs.declared.FilePatch.{FilePatch}
+use Rattle.read_file_patch.specs.PlainPatch.{patch_of}
 use Rattle.patch_set.specs.SetView.{patch_at}
-use Rattle.tool_words.specs.PlainJobs.{plain_filter_job}
+use Rattle.cli_tool_words.specs.PlainJobs.{plain_filter_job}
 use Rattle.format_convert.specs.Taken.{flags}
 use Rattle.format_convert.proofs.Parts.{Written}
 use Rattle.std.specs.List.{zip}

@@ -1,9 +1,9 @@
 use Rattle.std.proofs.Common.{false, sym, ◌∙◌, arith, ◌<◌, ℕ, subst}
-use Rattle.file_patch.specs.PlainPatch.{patch_of, row_count}
-use Rattle.tool_words.specs.PlainJobs.{plain_filter_job}
+use Rattle.read_file_patch.specs.PlainPatch.{patch_of, row_count}
+use Rattle.cli_tool_words.specs.PlainJobs.{plain_filter_job}
 use Rattle.format_convert.proofs.Rows.{count-is, flag-at}
 use Rattle.std.proofs.lemmas.Option.{same_Some, slice_get_within}
-use Rattle.file_patch.specs.declared.FilePatch.{FilePatch}
+use Rattle.read_file_patch.specs.declared.FilePatch.{FilePatch}
 use Rattle.format_convert.proofs.kept.is_kept.Goals as goal
 
 pub returns : goal.returns

@@ -1,7 +1,7 @@
 use Rattle.std.proofs.Common.{◌+◌, ◌<◌, ◌≤◌, ◌&&◌, ℕ, Bool, cond, Some, drop, length, sym, ap, ◌∙◌}
 use Rattle.std.specs.List.{flat_map}
-use Rattle.file_patch.specs.PlainPatch.{patch_of, first_opening}
-use Rattle.tool_words.specs.PlainJobs.{plain_filter_job}
+use Rattle.read_file_patch.specs.PlainPatch.{patch_of, first_opening}
+use Rattle.cli_tool_words.specs.PlainJobs.{plain_filter_job}
 use Rattle.format_convert.specs.Taken.{has_kept}
 use Rattle.line_list.proofs.Elements.{there-is}
 use Rattle.format_convert.specs.Converted.{rows}

@@ -1,7 +1,7 @@
 use Rattle.std.proofs.Common.{ap, sym, ◌∙◌}
 use Rattle.std.proofs.lemmas.Option.{same_Some}
-use Rattle.file_patch.specs.declared.FilePatch.{FilePatch}
-use Rattle.file_patch.specs.PlainPatch.{patch_of}
+use Rattle.read_file_patch.specs.declared.FilePatch.{FilePatch}
+use Rattle.read_file_patch.specs.PlainPatch.{patch_of}
 use Rattle.format_convert.specs.Refusals.{lacks_context}
 use Rattle.format_convert.proofs.RowLemmas.{and-none, and-some}
 use Rattle.format_convert.proofs.refusing.is_lacking.Goals as goal

@@ -1,6 +1,6 @@
 use Rattle.std.proofs.Common.{Bool, ◌&&◌, not, ap, sym, ◌∙◌}
-use Rattle.file_patch.specs.declared.Change.{Change}
-use Rattle.file_patch.specs.PlainPatch.{change_of}
+use Rattle.read_file_patch.specs.declared.Change.{Change}
+use Rattle.read_file_patch.specs.PlainPatch.{change_of}
 use Rattle.format_convert.specs.Refusals.{change_lacks, shows_context}
 use Rattle.format_convert.proofs.refusing.lacks_context.Goals as goal
 

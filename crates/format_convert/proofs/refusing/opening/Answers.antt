@@ -1,6 +1,6 @@
 use Rattle.std.proofs.Common.{ap, sym, ◌∙◌}
 use Rattle.std.proofs.lemmas.Option.{same_Some}
-use Rattle.file_patch.specs.declared.FilePatch.{FilePatch}
+use Rattle.read_file_patch.specs.declared.FilePatch.{FilePatch}
 use Rattle.format_convert.proofs.refusing.opening.Goals as goal
 
 pub returns : goal.returns

@@ -1,6 +1,6 @@
 use Rattle.std.proofs.Common.{drop}
 use Rattle.std.specs.List.{flat_map}
-use Rattle.tool_words.specs.PlainJobs.{plain_filter_job}
+use Rattle.cli_tool_words.specs.PlainJobs.{plain_filter_job}
 use Rattle.format_convert.proofs.Parts.{Written}
 use Rattle.format_convert.specs.Converted.{converted, rows, written_if}
 use Rattle.format_convert.proofs.writing.put_converted.Given as goal

@@ -6,7 +6,7 @@ use Rattle.hunk_core.specs.declared.Hunk.{Hunk}
 use Rattle.hunk_core.specs.PlainHunk.{hunks_of}
 use Rattle.hunk_place.specs.Verdicts.{verdicts, at_start}
 use Rattle.ed_form.specs.PlainEdit.{edits_of}
-use Rattle.file_patch.specs.PlainPatch.{PlainChange, hunks, change_of, row_count, IsLawfulChange, AreLawfulHunks}
+use Rattle.read_file_patch.specs.PlainPatch.{PlainChange, hunks, change_of, row_count, IsLawfulChange, AreLawfulHunks}
 use Rattle.hunk_apply.specs.declared.Session.{Session}
 use Rattle.hunk_apply.specs.Applied.{taken_all, applied}
 use Rattle.hunk_apply.specs.Change.{change_output, change_verdicts}

@@ -3,7 +3,7 @@ use Rattle.std.proofs.lemmas.Result.{IfErr-weaker}
 use Rattle.line_store.proofs.StoreLemmas.{keeps-same, keeps-more}
 use Rattle.outside.specs.SinkView.{sink_passes_none, sink_passes_both, Receives, ReceivesPart}
 use Rattle.outside.proofs.Exits.{if_ok_none}
-use Rattle.file_patch.specs.PlainPatch.{change_of}
+use Rattle.read_file_patch.specs.PlainPatch.{change_of}
 use Rattle.hunk_apply.proofs.FaultLemmas.{on-err, on-err-map, if-ok-map, if-err-still, apply-cause-more}
 use Rattle.hunk_apply.specs.Faults.{HasApplyCause}
 use Rattle.hunk_apply.proofs.WrittenLemmas.{wrote-same, part-same}

@@ -1,7 +1,7 @@
 use Rattle.std.proofs.Common.{◌≡◌, ℕ, List, length, Some}
 use Rattle.line_store.specs.Store.{Keeps}
 use Rattle.outside.specs.SinkView.{SinkPasses}
-use Rattle.file_patch.specs.PlainPatch.{change_of}
+use Rattle.read_file_patch.specs.PlainPatch.{change_of}
 use Rattle.ifdef_out.specs.Chain.{AreInOrder}
 use Rattle.ifdef_out.specs.Placed.{change_edits}
 use Rattle.ifdef_out.specs.Places.{edits_left}

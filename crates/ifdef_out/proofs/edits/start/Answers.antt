@@ -2,8 +2,8 @@ use Rattle.std.proofs.Common.{◌≡◌, ℕ, List, ◌∷◌, [], cond, length,
 use Rattle.hunk_core.specs.declared.Hunk.{Hunk}
 use Rattle.hunk_core.specs.declared.Verdict.{Verdict}
 use Rattle.hunk_core.specs.PlainHunk.{hunks_of}
-use Rattle.file_patch.specs.declared.Change.{Change}
-use Rattle.file_patch.specs.PlainPatch.{change_of, hunks, row_count, script}
+use Rattle.read_file_patch.specs.declared.Change.{Change}
+use Rattle.read_file_patch.specs.PlainPatch.{change_of, hunks, row_count, script}
 use Rattle.ed_form.specs.PlainEdit.{edits_of}
 use Rattle.hunk_apply.specs.Session.{is_placed}
 use Rattle.ifdef_out.specs.Placed.{change_edits, command_edits}

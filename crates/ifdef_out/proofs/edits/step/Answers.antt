@@ -4,14 +4,14 @@ use Rattle.std.specs.List.{All}
 use Rattle.hunk_core.specs.declared.Hunk.{Hunk}
 use Rattle.hunk_core.specs.Turned.{IsLawful}
 use Rattle.hunk_apply.specs.Splice.{Edit}
-use Rattle.file_patch.specs.PlainPatch.{AreLawfulHunks, IsLawfulChange, row_count}
-use Rattle.file_patch.specs.declared.Change.{Change}
-use Rattle.ifdef_out.specs.declared.place.Place.{Place}
+use Rattle.read_file_patch.specs.PlainPatch.{AreLawfulHunks, IsLawfulChange, row_count}
+use Rattle.read_file_patch.specs.declared.Change.{Change}
+use Rattle.ifdef_out.specs.declared.place.ChangeCursor.{ChangeCursor}
 use Rattle.ifdef_out.specs.declared.place.Step.{Step}
 use Rattle.ifdef_out.specs.Places.{IsStep, hunks_at, left_of, row_total}
 use Rattle.ifdef_out.proofs.edits.step.Goals as goal
 
-abbrev Steps : List ℕ → (ℕ → ℕ → ℕ → List Edit) → ℕ → Place → Option Step → Type 0
+abbrev Steps : List ℕ → (ℕ → ℕ → ℕ → List Edit) → ℕ → ChangeCursor → Option Step → Type 0
 Steps text rest_at count p r = MatchOption r (rest_at p.row p.line p.next ≡ []) (IsStep text rest_at count p)
 
 pub script_step-requires : goal.script_step-requires

@@ -1,7 +1,7 @@
 use Rattle.std.proofs.Common.{◌∙◌, List, ap, length, subst}
 use Rattle.outside.proofs.Exits.{if_ok_none}
 use Rattle.name_choice.specs.Making.{told_new}
-use Rattle.file_patch.specs.declared.derived.Target.{Target}
+use Rattle.read_file_patch.specs.declared.derived.Target.{Target}
 use Rattle.name_choice.specs.Choice.{created, first_place, names_of, IsWithin}
 use Rattle.name_choice.proofs.Chosen.{chosen_operand, chosen_there, created_within, late_cause, some_within}
 use Rattle.outside.proofs.Views.{untouched_both}

@@ -1,6 +1,6 @@
 use Rattle.std.proofs.Common.{sym, subst, ◌∙◌, arith, refl, ap}
 use Rattle.std.proofs.lemmas.Option.{none-some, same_Some}
-use Rattle.packed_pages.specs.declared.places.Place.{Place}
+use Rattle.packed_pages.specs.declared.places.RecordPlace.{RecordPlace}
 use Rattle.packed_pages.specs.Layout.{IsPageOf, lines_told}
 use Rattle.packed_pages.specs.Held.{IsLoaded}
 use Rattle.packed_pages.proofs.HeldLemmas.{held-more, load-cause}
@@ -20,7 +20,7 @@ returns-in-Ok-clause-page g c x is b told =
     let e = same_Some c.in-Ok.place x (sym c.set.ensures.held ∙ is) in
     let on = c.in-Ok.ensures.loaded.on in
     let page = on.told b told in
-    subst (λ (p : Place). IsPageOf c.args.layout b c.args.k p.page) e
+    subst (λ (p : RecordPlace). IsPageOf c.args.layout b c.args.k p.page) e
     (subst (λ k. IsPageOf c.args.layout b k c.in-Ok.place.page) c.in-Ok.ensures.line
     (page-plain c.args.layout b c.in-Ok.place.line c.in-Ok.place.page c.in-Ok.place.first c.in-Ok.place.next c.requires.held.layout (c.requires.held.packs (omega arith) b (sym c.fetch_line.ensures.told ∙ told)) on.page page.first page.next on.low on.high))
 

@@ -1,8 +1,8 @@
 use Rattle.std.proofs.Common.{inl, inr, ⊎_elim, map, string_bytes}
 use Rattle.patch_cli.specs.Command.{command}
-use Rattle.run_answers.specs.Reasons.{refusal_line}
-use Rattle.run_answers.proofs.Writes.{writes_part}
-use Rattle.run_answers.proofs.Names.{old_or_new}
+use Rattle.cli_run_answers.specs.Reasons.{refusal_line}
+use Rattle.cli_run_answers.proofs.Writes.{writes_part}
+use Rattle.cli_run_answers.proofs.Names.{old_or_new}
 use Rattle.patch_run.proofs.Written.{writes_whole}
 use Rattle.patch_cli.proofs.Carrying.{carries_as, is_complete}
 use Rattle.patch_cli.proofs.cli.run.Goals as goal

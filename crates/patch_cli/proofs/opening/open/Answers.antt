@@ -1,7 +1,7 @@
 use Rattle.std.proofs.Common.{map, string_bytes}
 use Rattle.patch_options.specs.PlainJob.{plain_options}
 use Rattle.patch_options.specs.Words.{job_of}
-use Rattle.run_answers.proofs.Opens.{opens_both, opens_untouched}
+use Rattle.cli_run_answers.proofs.Opens.{opens_both, opens_untouched}
 use Rattle.patch_cli.proofs.Asked.{asked_behind, settle_stops, patches_stop}
 use Rattle.patch_cli.proofs.opening.open.Goals as goal
 

@@ -3,7 +3,7 @@ use Rattle.std.proofs.lemmas.Result.{IfErr-weaker}
 use Rattle.outside.specs.Calls.{untouched_both}
 use Rattle.patch_options.specs.PlainJob.{plain_options}
 use Rattle.patch_options.specs.PlainJob.PlainJob.{patch}
-use Rattle.run_answers.specs.Input.{IsAnswer}
+use Rattle.cli_run_answers.specs.Input.{IsAnswer}
 use Rattle.patch_cli.specs.Returns.{has_return, strips_returns}
 use Rattle.patch_cli.proofs.Asked.{asked_if, numbers_stop, on_ok_so, standard_is}
 use Rattle.patch_cli.proofs.opening.read_patches.Goals as goal

@@ -1,6 +1,6 @@
 use Rattle.std.proofs.Common.{◌<◌, ◌≤◌, ◌&&◌, ◌∙◌, false, length, get_or, ap, arith}
-use Rattle.file_patch.specs.PlainPatch.{change_of}
-use Rattle.tool_words.specs.PlainJobs.{plain_filter_job}
+use Rattle.read_file_patch.specs.PlainPatch.{change_of}
+use Rattle.cli_tool_words.specs.PlainJobs.{plain_filter_job}
 use Rattle.patch_set.proofs.Named.{rows-counted}
 use Rattle.filter_choice.specs.Kept.{kept}
 use Rattle.filter_choice.proofs.Rows.{kept-long}

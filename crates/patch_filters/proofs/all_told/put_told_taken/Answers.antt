@@ -1,5 +1,5 @@
 use Rattle.std.proofs.Common.{◌∙◌, length, ap}
-use Rattle.tool_words.specs.PlainJobs.{plain_filter_job}
+use Rattle.cli_tool_words.specs.PlainJobs.{plain_filter_job}
 use Rattle.filter_choice.proofs.Rows.{kept-long}
 use Rattle.patch_filters.proofs.all_told.put_told_taken.Goals as goal
 

@@ -1,8 +1,8 @@
 use Rattle.std.proofs.Common.{◌<◌, ◌≤◌, ◌++◌, ◌∙◌, List, ap, arith, length, subst}
 use Rattle.std.specs.List.{flat_map}
 use Rattle.line_list.proofs.Elements.{there-is}
-use Rattle.file_patch.specs.declared.FilePatch.{FilePatch}
-use Rattle.tool_words.specs.PlainJobs.{plain_filter_job}
+use Rattle.read_file_patch.specs.declared.FilePatch.{FilePatch}
+use Rattle.cli_tool_words.specs.PlainJobs.{plain_filter_job}
 use Rattle.patch_filters.specs.Told.{ends_of, text_behind, told, told_if}
 use Rattle.patch_filters.proofs.HunkTexts.{rows, rows-all, rows-more}
 use Rattle.patch_filters.proofs.all_told.told_patches.Goals as goal

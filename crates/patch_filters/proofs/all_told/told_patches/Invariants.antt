@@ -1,6 +1,6 @@
 use Rattle.std.proofs.Common.{◌≡◌, ◌++◌, drop}
 use Rattle.std.specs.List.{flat_map}
-use Rattle.tool_words.specs.PlainJobs.{plain_filter_job}
+use Rattle.cli_tool_words.specs.PlainJobs.{plain_filter_job}
 use Rattle.patch_filters.specs.Told.{told_if}
 use Rattle.patch_filters.proofs.HunkTexts.{rows}
 use Rattle.patch_filters.proofs.all_told.told_patches.Given as goal

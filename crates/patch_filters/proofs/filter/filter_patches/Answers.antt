@@ -1,8 +1,8 @@
 use Rattle.std.proofs.Common.{Ok, ◌≡◌, suc, ◌<◌, List, length, sym, subst, arith}
 use Rattle.std.specs.List.{zip}
 use Rattle.std.proofs.lemmas.Result.{err_from_is_err_and}
-use Rattle.file_patch.specs.declared.FilePatch.{FilePatch}
-use Rattle.tool_words.specs.PlainJobs.{plain_filter_job}
+use Rattle.read_file_patch.specs.declared.FilePatch.{FilePatch}
+use Rattle.cli_tool_words.specs.PlainJobs.{plain_filter_job}
 use Rattle.line_list.proofs.Elements.{there-is}
 use Rattle.outside.specs.Puts.{Puts}
 use Rattle.outside.specs.declared.Failed.{Failed}

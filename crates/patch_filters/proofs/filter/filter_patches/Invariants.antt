@@ -1,7 +1,7 @@
 use Rattle.std.specs.List.{zip}
 use Rattle.outside.proofs.SinkSteps.{HasPut}
 use Rattle.outside.proofs.Loops.{up_to}
-use Rattle.tool_words.specs.PlainJobs.{plain_filter_job}
+use Rattle.cli_tool_words.specs.PlainJobs.{plain_filter_job}
 use Rattle.filter_choice.specs.Selected.{numbered}
 use Rattle.patch_filters.specs.Digested.{digest_if_taken}
 use Rattle.patch_filters.proofs.filter.filter_patches.Given as goal

@@ -2,7 +2,7 @@ use Rattle.std.proofs.Common.{◌≡◌, true, false, arith, get_or, sym, subst,
 use Rattle.line_list.proofs.Elements.{found}
 use Rattle.outside.specs.Puts.{Puts}
 use Rattle.outside.proofs.SinkSteps.{has-none, puts-done}
-use Rattle.tool_words.specs.PlainJobs.{plain_filter_job}
+use Rattle.cli_tool_words.specs.PlainJobs.{plain_filter_job}
 use Rattle.filter_choice.proofs.Placed.{span-in, turn-of}
 use Rattle.patch_filters.specs.Digested.{digest_kept}
 use Rattle.patch_filters.proofs.Flagged.{piece-at}

@@ -2,8 +2,8 @@ use Rattle.std.proofs.Common.{◌≡◌, suc, false, true, sym, ap, subst, ◌�
 use Rattle.std.proofs.lemmas.Option.{same_Some}
 use Rattle.outside.specs.Puts.{Puts}
 use Rattle.outside.proofs.SinkSteps.{has-none, puts-done}
-use Rattle.patch_text.specs.Digests.{IsDigest}
-use Rattle.tool_words.specs.PlainJobs.{plain_filter_job}
+use Rattle.read_patch_text.specs.Digests.{IsDigest}
+use Rattle.cli_tool_words.specs.PlainJobs.{plain_filter_job}
 use Rattle.patch_filters.specs.Filtered.{is_taken_of}
 use Rattle.patch_filters.specs.Digested.{digest_written}
 use Rattle.patch_filters.proofs.filter.put_if_taken.Goals as goal

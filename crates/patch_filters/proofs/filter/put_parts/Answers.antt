@@ -1,6 +1,6 @@
 use Rattle.std.proofs.Common.{◌≡◌, ◌<◌, false, [], length, get_or, refl, arith}
 use Rattle.std.proofs.lemmas.Result.{err_from_is_err_and}
-use Rattle.tool_words.specs.PlainJobs.{plain_filter_job}
+use Rattle.cli_tool_words.specs.PlainJobs.{plain_filter_job}
 use Rattle.patch_filters.specs.Digested.{digest_kept}
 use Rattle.patch_filters.specs.Filtered.{chosen, pieces, text_if}
 use Rattle.outside.proofs.Loops.{goes-on, stops, ends}

@@ -1,7 +1,7 @@
 use Rattle.std.specs.List.{zip}
 use Rattle.outside.proofs.SinkSteps.{HasPut}
 use Rattle.outside.proofs.Loops.{up_to}
-use Rattle.tool_words.specs.PlainJobs.{plain_filter_job}
+use Rattle.cli_tool_words.specs.PlainJobs.{plain_filter_job}
 use Rattle.patch_filters.specs.Digested.{digest_kept}
 use Rattle.patch_filters.specs.Filtered.{pieces, text_if}
 use Rattle.patch_filters.proofs.filter.put_parts.Given as goal

@@ -2,7 +2,7 @@ use Rattle.std.proofs.Common.{◌≡◌, true, false, arith, sym, subst, ◌∙�
 use Rattle.std.specs.List.{list_any}
 use Rattle.outside.specs.Puts.{Puts}
 use Rattle.outside.proofs.SinkSteps.{has-none, puts-done}
-use Rattle.tool_words.specs.PlainJobs.{plain_filter_job}
+use Rattle.cli_tool_words.specs.PlainJobs.{plain_filter_job}
 use Rattle.patch_filters.specs.Digested.{digest_kept}
 use Rattle.patch_filters.specs.Filtered.{asks_no_hunk}
 use Rattle.patch_filters.proofs.filter.put_written.Goals as goal

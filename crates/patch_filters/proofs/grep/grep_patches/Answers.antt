@@ -4,8 +4,8 @@ use Rattle.outside.specs.FinderView.{finder_passes_none, finder_passes_both}
 use Rattle.std.specs.Prelude.{◌==◌, is_some, string_bytes}
 use Rattle.outside.specs.SinkView.{Receives, ReceivesPart, sink_passes_none}
 use Rattle.outside.proofs.Writing.{received_none}
-use Rattle.file_patch.specs.declared.FilePatch.{FilePatch}
-use Rattle.tool_words.specs.PlainJobs.{plain_grep_job}
+use Rattle.read_file_patch.specs.declared.FilePatch.{FilePatch}
+use Rattle.cli_tool_words.specs.PlainJobs.{plain_grep_job}
 use Rattle.patch_filters.specs.Grepped.{grepped, test_of}
 use Rattle.patch_filters.proofs.Finding.{find-cause, none-part, pattern-cause, test-is}
 use Rattle.patch_filters.proofs.Hits.{grepped-none, has-none-in, is-empty}

@@ -1,5 +1,5 @@
 use Rattle.std.proofs.Common.{◌∙◌, sym}
-use Rattle.tool_words.specs.PlainJobs.{plain_grep_job}
+use Rattle.cli_tool_words.specs.PlainJobs.{plain_grep_job}
 use Rattle.patch_filters.specs.Grepped.{found_text, found_told, tells, test_of}
 use Rattle.patch_filters.proofs.Finding.{either-set, either-unset}
 use Rattle.patch_filters.proofs.grep.put_asked.Goals as goal

@@ -3,10 +3,10 @@ use Rattle.std.proofs.lemmas.Option.{same_Some}
 use Rattle.hunk_core.specs.PlainHunk.{bytes_at}
 use Rattle.outside.specs.Puts.{Puts}
 use Rattle.outside.proofs.SinkSteps.{has-put}
-use Rattle.file_patch.specs.declared.FilePatch.{FilePatch}
-use Rattle.file_patch.specs.PlainPatch.{change_of}
-use Rattle.tool_words.specs.PlainJobs.{plain_grep_job}
-use Rattle.tool_words.specs.declared.jobs.GrepOut.TheVariants.{Names, Hunks, Files}
+use Rattle.read_file_patch.specs.declared.FilePatch.{FilePatch}
+use Rattle.read_file_patch.specs.PlainPatch.{change_of}
+use Rattle.cli_tool_words.specs.PlainJobs.{plain_grep_job}
+use Rattle.cli_tool_words.specs.declared.jobs.GrepOut.TheVariants.{Names, Hunks, Files}
 use Rattle.patch_filters.specs.declared.fault.GrepFault.TheVariants.{Write}
 use Rattle.patch_filters.specs.Grepped.{Finds, found_text, hits_of, test_of}
 use Rattle.patch_filters.specs.Filtered.{chosen, text_if}

@@ -1,6 +1,6 @@
 use Rattle.std.proofs.Common.{[], ◌≡◌, ◌<◌, List, length, subst, arith}
-use Rattle.file_patch.specs.declared.FilePatch.{FilePatch}
-use Rattle.tool_words.specs.PlainJobs.{plain_grep_job}
+use Rattle.read_file_patch.specs.declared.FilePatch.{FilePatch}
+use Rattle.cli_tool_words.specs.PlainJobs.{plain_grep_job}
 use Rattle.line_list.proofs.Elements.{there-is}
 use Rattle.patch_filters.specs.Grepped.{test_of, text_if_found}
 use Rattle.patch_filters.proofs.Searching.{still-kept}

@@ -1,4 +1,4 @@
-use Rattle.tool_words.specs.PlainJobs.{plain_grep_job}
+use Rattle.cli_tool_words.specs.PlainJobs.{plain_grep_job}
 use Rattle.patch_filters.specs.Grepped.{test_of, text_if_found}
 use Rattle.patch_filters.proofs.Finding.{HasFound}
 use Rattle.outside.proofs.Loops.{up_to}

@@ -1,7 +1,7 @@
 use Rattle.std.proofs.Common.{rules, ◌≡◌, ◌+◌, ◌<◌, ◌++◌, false, [], length, get_or, Ok, Err, ap, subst, ◌∙◌, arith}
 use Rattle.std.specs.List.{zip}
 use Rattle.std.proofs.lemmas.Option.{slice_get-get_or}
-use Rattle.file_patch.specs.PlainPatch.{change_of, row_count}
+use Rattle.read_file_patch.specs.PlainPatch.{change_of, row_count}
 use Rattle.filter_choice.proofs.Rows.{zip-at, zip-count}
 use Rattle.patch_set.proofs.Named.{rows-counted}
 use Rattle.patch_filters.specs.Filtered.{text_if}

@@ -1,6 +1,6 @@
 use Rattle.std.proofs.Common.{◌≡◌}
 use Rattle.std.specs.List.{zip}
-use Rattle.file_patch.specs.PlainPatch.{change_of}
+use Rattle.read_file_patch.specs.PlainPatch.{change_of}
 use Rattle.patch_filters.specs.Filtered.{pieces, text_if}
 use Rattle.patch_filters.specs.Grepped.{hits_of, test_of}
 use Rattle.patch_filters.specs.HunkLines.{first_line, hunk_lines}

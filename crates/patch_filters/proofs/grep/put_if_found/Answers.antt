@@ -1,9 +1,9 @@
 use Rattle.std.proofs.Common.{◌≡◌, true, false, ◌&&◌, Some, sym, ap, subst, ◌∙◌, arith}
 use Rattle.std.specs.List.{list_any}
 use Rattle.std.proofs.lemmas.Option.{same_Some}
-use Rattle.file_patch.specs.PlainPatch.{change_of, header_of, patch_of}
+use Rattle.read_file_patch.specs.PlainPatch.{change_of, header_of, patch_of}
 use Rattle.patch_set.specs.PlainName.{plain_name}
-use Rattle.tool_words.specs.PlainJobs.{plain_grep_job}
+use Rattle.cli_tool_words.specs.PlainJobs.{plain_grep_job}
 use Rattle.patch_filters.specs.declared.fault.GrepFault.TheVariants.{Memory}
 use Rattle.filter_choice.specs.Selected.{is_selected}
 use Rattle.patch_filters.specs.Grepped.{IsFirst, asked_text, hits_of, is_found, test_of, text_if_found}

@@ -1,5 +1,5 @@
 use Rattle.std.proofs.Common.{◌≡◌, ◌++◌, true, false, get_or, sym, ◌∙◌}
-use Rattle.file_patch.specs.PlainPatch.{change_of}
+use Rattle.read_file_patch.specs.PlainPatch.{change_of}
 use Rattle.outside.proofs.SinkSteps.{has-put}
 use Rattle.patch_filters.specs.declared.fault.GrepFault.TheVariants.{Write, Memory}
 use Rattle.patch_filters.specs.Filtered.{text_if}

@@ -1,4 +1,4 @@
-use Rattle.file_patch.specs.PlainPatch.{change_of}
+use Rattle.read_file_patch.specs.PlainPatch.{change_of}
 use Rattle.patch_filters.specs.Filtered.{chosen}
 use Rattle.patch_filters.specs.Grepped.{hits_of, test_of}
 use Rattle.patch_filters.specs.HunkLines.{hunk_lines}

@@ -1,7 +1,7 @@
 use Rattle.std.proofs.Common.{◌≡◌, ◌+◌, ◌<◌, false, [], length, get_or, drop, Err, subst, arith}
 use Rattle.std.specs.List.{flat_map}
 use Rattle.outside.proofs.SinkSteps.{HasPut, has-more, has-put}
-use Rattle.file_patch.specs.PlainPatch.{change_of, row_count}
+use Rattle.read_file_patch.specs.PlainPatch.{change_of, row_count}
 use Rattle.patch_set.proofs.Named.{rows-counted}
 use Rattle.patch_filters.specs.declared.fault.GrepFault.TheVariants.{Write}
 use Rattle.patch_filters.specs.Filtered.{chosen, pieces, region, text_if}

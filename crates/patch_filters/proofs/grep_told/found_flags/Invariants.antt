@@ -1,5 +1,5 @@
 use Rattle.std.proofs.Common.{◌≡◌, ◌++◌, drop}
-use Rattle.file_patch.specs.PlainPatch.{change_of}
+use Rattle.read_file_patch.specs.PlainPatch.{change_of}
 use Rattle.patch_filters.specs.Grepped.{IsAsked, hits_of, test_of, written_flags}
 use Rattle.patch_filters.proofs.grep_told.found_flags.Given as goal
 

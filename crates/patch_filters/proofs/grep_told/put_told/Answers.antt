@@ -1,9 +1,9 @@
 use Rattle.std.proofs.Common.{◌≡◌, ◌∙◌, Bool, Err, List, ap, subst, sym}
 use Rattle.std.proofs.lemmas.Option.{same_Some}
 use Rattle.outside.specs.Puts.{Puts}
-use Rattle.file_patch.specs.declared.FilePatch.{FilePatch}
-use Rattle.file_patch.specs.PlainPatch.{change_of, patch_of}
-use Rattle.tool_words.specs.PlainJobs.{plain_grep_job}
+use Rattle.read_file_patch.specs.declared.FilePatch.{FilePatch}
+use Rattle.read_file_patch.specs.PlainPatch.{change_of, patch_of}
+use Rattle.cli_tool_words.specs.PlainJobs.{plain_grep_job}
 use Rattle.patch_filters.specs.declared.fault.GrepFault.TheVariants.{Write}
 use Rattle.patch_filters.specs.Filtered.{pieces, region}
 use Rattle.patch_filters.specs.Grepped.{Finds, found_told, hits_of, plain_telling, test_of, written_flags}

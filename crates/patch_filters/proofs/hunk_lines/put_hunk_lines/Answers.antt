@@ -3,7 +3,7 @@ use Rattle.std.proofs.lemmas.Result.{err_from_is_err_and}
 use Rattle.outside.specs.Puts.{Puts}
 use Rattle.outside.proofs.SinkSteps.{has-none}
 use Rattle.outside.proofs.Loops.{goes-on, stops, ends}
-use Rattle.file_patch.specs.PlainPatch.{row_count}
+use Rattle.read_file_patch.specs.PlainPatch.{row_count}
 use Rattle.patch_set.proofs.Named.{rows-counted}
 use Rattle.patch_filters.specs.HunkLines.{hunk_line, hunk_lines}
 use Rattle.patch_filters.proofs.Begun.{hunk-lines-long, line-few, line-next, shown-at}

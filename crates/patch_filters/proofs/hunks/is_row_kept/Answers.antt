@@ -1,7 +1,7 @@
 use Rattle.std.proofs.Common.{◌≡◌, ◌+◌, ◌&&◌, [], suc, get_or, sym, ap, ◌∙◌, arith}
 use Rattle.std.proofs.lemmas.Option.{slice_get-get_or}
-use Rattle.file_patch.specs.PlainPatch.{change_of}
-use Rattle.tool_words.specs.PlainJobs.{plain_filter_job}
+use Rattle.read_file_patch.specs.PlainPatch.{change_of}
+use Rattle.cli_tool_words.specs.PlainJobs.{plain_filter_job}
 use Rattle.filter_choice.specs.Selected.{is_meant, is_one_meant}
 use Rattle.patch_filters.specs.Digested.{olds_by}
 use Rattle.filter_choice.specs.OldLines.{numbers_of}

@@ -1,7 +1,7 @@
 use Rattle.std.proofs.Common.{◌<◌, Some, List, ℕ, sym, ap, subst, ◌∙◌}
 use Rattle.std.specs.Prelude.{option_map}
 use Rattle.std.proofs.lemmas.Option.{slice_get-get_or, slice_get-map}
-use Rattle.patch_text.specs.Digests.{rows_in}
+use Rattle.read_patch_text.specs.Digests.{rows_in}
 use Rattle.patch_filters.specs.Digested.{range_numbers}
 use Rattle.patch_filters.proofs.hunks.row_lines.Goals as goal
 

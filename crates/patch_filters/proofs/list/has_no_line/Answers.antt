@@ -1,6 +1,6 @@
 use Rattle.std.proofs.Common.{ap, ◌∙◌}
 use Rattle.hunk_core.specs.PlainHunk.{hunks_of}
-use Rattle.file_patch.specs.PlainPatch.{hunks}
+use Rattle.read_file_patch.specs.PlainPatch.{hunks}
 use Rattle.patch_filters.specs.Listed.{has_no_line}
 use Rattle.patch_filters.proofs.list.has_no_line.Goals as goal
 

@@ -3,8 +3,8 @@ use Rattle.std.proofs.lemmas.Result.{err_from_is_err_and}
 use Rattle.std.specs.Prelude.{option_map}
 use Rattle.std.proofs.lemmas.List.{length-map}
 use Rattle.std.proofs.lemmas.Option.{slice_get-map}
-use Rattle.file_patch.specs.PlainPatch.{patch_of}
-use Rattle.tool_words.specs.PlainJobs.{plain_list_job}
+use Rattle.read_file_patch.specs.PlainPatch.{patch_of}
+use Rattle.cli_tool_words.specs.PlainJobs.{plain_list_job}
 use Rattle.line_list.proofs.Elements.{there-is}
 use Rattle.filter_choice.specs.Selected.{numbered}
 use Rattle.filter_choice.proofs.Rows.{numbered-at, numbered-count}
@@ -14,7 +14,7 @@ use Rattle.outside.specs.declared.Failed.{Failed}
 use Rattle.outside.proofs.Loops.{goes-on, stops, ends}
 use Rattle.patch_filters.proofs.Rows.{listed-is}
 use Rattle.outside.proofs.SinkSteps.{has-none}
-use Rattle.file_patch.specs.declared.FilePatch.{FilePatch}
+use Rattle.read_file_patch.specs.declared.FilePatch.{FilePatch}
 use Rattle.patch_filters.proofs.list.list_patches.Goals as goal
 
 pub returns-in_err-put_if_selected : goal.returns-in_err-put_if_selected

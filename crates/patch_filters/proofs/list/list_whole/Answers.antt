@@ -1,6 +1,6 @@
 use Rattle.std.proofs.Common.{Ok, ◌≡◌, suc, ◌<◌, length, arith, List, subst}
 use Rattle.std.proofs.lemmas.Result.{err_from_is_err_and}
-use Rattle.tool_words.specs.PlainJobs.{plain_list_job}
+use Rattle.cli_tool_words.specs.PlainJobs.{plain_list_job}
 use Rattle.line_list.proofs.Elements.{there-is}
 use Rattle.filter_choice.specs.Selected.{numbered}
 use Rattle.filter_choice.proofs.Rows.{numbered-at, numbered-count}
@@ -10,7 +10,7 @@ use Rattle.outside.specs.declared.Failed.{Failed}
 use Rattle.outside.proofs.Loops.{goes-on, stops, ends}
 use Rattle.patch_filters.proofs.Rows.{listed-whole-is}
 use Rattle.outside.proofs.SinkSteps.{has-none}
-use Rattle.file_patch.specs.declared.FilePatch.{FilePatch}
+use Rattle.read_file_patch.specs.declared.FilePatch.{FilePatch}
 use Rattle.patch_filters.proofs.list.list_whole.Goals as goal
 
 pub returns-in_err-put_whole_if_selected : goal.returns-in_err-put_whole_if_selected

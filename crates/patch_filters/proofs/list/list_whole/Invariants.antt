@@ -1,6 +1,6 @@
 use Rattle.outside.proofs.SinkSteps.{HasPut}
 use Rattle.filter_choice.specs.Selected.{numbered}
-use Rattle.tool_words.specs.PlainJobs.{plain_list_job}
+use Rattle.cli_tool_words.specs.PlainJobs.{plain_list_job}
 use Rattle.patch_filters.specs.Listed.{lines_if_selected}
 use Rattle.outside.proofs.Loops.{up_to}
 use Rattle.patch_filters.proofs.list.list_whole.Given as goal

@@ -5,10 +5,10 @@ use Rattle.std.proofs.lemmas.List.Elements.{All-get_or}
 use Rattle.line_list.proofs.Elements.{found}
 use Rattle.outside.specs.Puts.{Puts}
 use Rattle.outside.proofs.SinkSteps.{has-none, puts-done}
-use Rattle.file_patch.specs.declared.FilePatch.{FilePatch}
-use Rattle.file_patch.specs.Absent.{IsLawfulPatch}
-use Rattle.file_patch.specs.PlainPatch.{patch_of}
-use Rattle.tool_words.specs.PlainJobs.{plain_list_job}
+use Rattle.read_file_patch.specs.declared.FilePatch.{FilePatch}
+use Rattle.read_file_patch.specs.Absent.{IsLawfulPatch}
+use Rattle.read_file_patch.specs.PlainPatch.{patch_of}
+use Rattle.cli_tool_words.specs.PlainJobs.{plain_list_job}
 use Rattle.filter_choice.specs.Selected.{is_selected}
 use Rattle.patch_filters.specs.Listed.{is_listed, list_line, name_line}
 use Rattle.patch_filters.proofs.list.put_if_selected.Goals as goal

@@ -2,8 +2,8 @@ use Rattle.std.proofs.Common.{Err, subst}
 use Rattle.std.proofs.lemmas.Result.{err_from_is_err_and}
 use Rattle.outside.specs.Puts.{Puts}
 use Rattle.outside.proofs.SinkSteps.{HasPut, has-put, puts-more, puts-stop}
-use Rattle.file_patch.specs.PlainPatch.{patch_of}
-use Rattle.tool_words.specs.PlainJobs.{plain_shown}
+use Rattle.read_file_patch.specs.PlainPatch.{patch_of}
+use Rattle.cli_tool_words.specs.PlainJobs.{plain_shown}
 use Rattle.patch_filters.specs.Listed.{own_line}
 use Rattle.patch_filters.proofs.list.put_name_line.Goals as goal
 

@@ -5,9 +5,9 @@ use Rattle.std.specs.List.{flat_map}
 use Rattle.outside.specs.Puts.{Puts}
 use Rattle.outside.specs.declared.Failed.{Failed}
 use Rattle.outside.proofs.SinkSteps.{has-none, has-put, puts-done, puts-more, puts-stop}
-use Rattle.file_patch.specs.declared.FilePatch.{FilePatch}
-use Rattle.file_patch.specs.PlainPatch.{patch_of}
-use Rattle.tool_words.specs.PlainJobs.{plain_list_job}
+use Rattle.read_file_patch.specs.declared.FilePatch.{FilePatch}
+use Rattle.read_file_patch.specs.PlainPatch.{patch_of}
+use Rattle.cli_tool_words.specs.PlainJobs.{plain_list_job}
 use Rattle.filter_choice.specs.Selected.{is_selected}
 use Rattle.patch_filters.specs.Filtered.{text_if}
 use Rattle.patch_filters.specs.HunkLines.{hunk_lines}

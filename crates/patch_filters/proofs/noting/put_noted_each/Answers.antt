@@ -1,6 +1,6 @@
 use Rattle.std.proofs.Common.{◌≡◌, ◌<◌, ◌≤◌, ◌-◌, ◌++◌, ◌∙◌, ℕ, ap, arith, subst}
 use Rattle.std.specs.List.{flat_map, range_with_len}
-use Rattle.file_patch.specs.PlainPatch.{hunk_count}
+use Rattle.read_file_patch.specs.PlainPatch.{hunk_count}
 use Rattle.patch_set.proofs.Named.{rows-counted}
 use Rattle.patch_filters.proofs.Hits.{few-rows}
 use Rattle.patch_filters.proofs.HunkTexts.{put-all, put-more}

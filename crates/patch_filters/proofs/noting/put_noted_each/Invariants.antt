@@ -1,6 +1,6 @@
 use Rattle.std.proofs.Common.{◌≡◌, ◌++◌, ◌-◌}
 use Rattle.std.specs.List.{flat_map, range_with_len}
-use Rattle.file_patch.specs.PlainPatch.{hunk_count}
+use Rattle.read_file_patch.specs.PlainPatch.{hunk_count}
 use Rattle.patch_filters.specs.Rows.{plain, telling, texts}
 use Rattle.patch_filters.specs.Told.{noted_if}
 use Rattle.patch_filters.proofs.noting.put_noted_each.Given as goal

@@ -2,7 +2,7 @@ use Rattle.std.proofs.Common.{◌≡◌, ◌+◌, ◌++◌, ◌∙◌, [], OnOk,
 use Rattle.std.specs.Prelude.{slice_index_or}
 use Rattle.std.proofs.lemmas.List.{append-nil}
 use Rattle.patch_set.specs.PlainName.{plain_name}
-use Rattle.patch_style.specs.Styled.{noted_text}
+use Rattle.filter_style.specs.Styled.{noted_text}
 use Rattle.patch_filters.specs.Rows.{plain, telling, texts}
 use Rattle.patch_filters.specs.Told.{is_set, note}
 use Rattle.patch_filters.proofs.noting.put_noted_if.Goals as goal

@@ -1,7 +1,7 @@
 use Rattle.std.proofs.Common.{◌<◌, false, length, Some, refl, ap, sym, ◌∙◌, arith}
 use Rattle.std.proofs.lemmas.Option.{slice_get-get_or}
 use Rattle.outside.proofs.Exits.{if_ok_none}
-use Rattle.file_patch.specs.PlainPatch.{change_of}
+use Rattle.read_file_patch.specs.PlainPatch.{change_of}
 use Rattle.patch_set.proofs.Named.{rows-counted}
 use Rattle.patch_filters.specs.Grepped.{hits_of, test_of}
 use Rattle.patch_filters.proofs.Searching.{asked-both, asked-none, flag-of, none-more, none-there, still-kept}

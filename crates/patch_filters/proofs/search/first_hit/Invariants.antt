@@ -1,4 +1,4 @@
-use Rattle.file_patch.specs.PlainPatch.{change_of}
+use Rattle.read_file_patch.specs.PlainPatch.{change_of}
 use Rattle.patch_filters.specs.Grepped.{hits_of}
 use Rattle.patch_filters.proofs.Searching.{HasNone}
 use Rattle.patch_filters.proofs.search.first_hit.Given as goal

@@ -1,5 +1,5 @@
 use Rattle.std.proofs.Common.{◌≡◌, ◌<◌, IfOk, sym, subst}
-use Rattle.file_patch.specs.PlainPatch.{row_count, IsLawfulChange}
+use Rattle.read_file_patch.specs.PlainPatch.{row_count, IsLawfulChange}
 use Rattle.line_list.proofs.Elements.{found}
 use Rattle.patch_filters.specs.Grepped.{test_of}
 use Rattle.patch_filters.proofs.Hits.{hunk-hits, all-at, script-hit}

@@ -1,6 +1,6 @@
 use Rattle.std.proofs.Common.{◌≡◌, ◌+◌, ◌/◌, ◌%◌, ◌^◌, ap, sym, ◌∙◌, ℕ, ◌++◌, arith}
 use Rattle.std.proofs.lemmas.List.{append-nil}
-use Rattle.patch_gen.specs.Draws.{draw, next_state, state_after}
+use Rattle.patch_gen.specs.Lcg.{draw, next_state, state_after}
 use Rattle.patch_gen.specs.Texts.{numbered_line}
 use Rattle.patch_gen.proofs.RunLemmas.{run-more, state-start, state-more, on_ok_none}
 use Rattle.std.specs.List.{flat_map, range_with_len}

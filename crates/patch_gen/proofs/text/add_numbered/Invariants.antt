@@ -1,6 +1,6 @@
 use Rattle.std.proofs.Common.{◌≡◌, ◌++◌, ◌%◌}
 use Rattle.std.specs.List.{flat_map, range_with_len}
-use Rattle.patch_gen.specs.Draws.{draw, state_after}
+use Rattle.patch_gen.specs.Lcg.{draw, state_after}
 use Rattle.patch_gen.specs.Texts.{numbered_line}
 use Rattle.patch_gen.proofs.text.add_numbered.Given as goal
 

@@ -1,6 +1,6 @@
 use Rattle.std.proofs.Common.{◌≡◌, ◌/◌, ◌%◌, ◌^◌, ap, sym, ◌∙◌, ◌++◌}
 use Rattle.std.specs.List.{flat_map, range_with_len}
-use Rattle.patch_gen.specs.Draws.{draw, state_after}
+use Rattle.patch_gen.specs.Lcg.{draw, state_after}
 use Rattle.patch_gen.specs.Texts.{numbered_line, extra_lines, extra_count}
 use Rattle.patch_gen.proofs.RunLemmas.{state-one, state-add}
 use Rattle.patch_gen.proofs.text.file_of.Goals as goal

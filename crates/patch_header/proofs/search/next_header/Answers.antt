@@ -1,5 +1,5 @@
 use Rattle.patch_header.specs.declared.search.HeaderStep.TheVariants.{Found, Binary, End}
-use Rattle.patch_header.specs.Ways.{with_git}
+use Rattle.patch_header.specs.ReadOptions.{with_git}
 use Rattle.patch_header.proofs.StepLemmas.{just_that}
 use Rattle.std.proofs.Common.{◌≡◌, subst}
 use Rattle.std.proofs.lemmas.Bool.{false≢true}

@@ -2,18 +2,18 @@ use Rattle.std.proofs.Common.{◌≡◌, inl, ℕ, List, [], length, Some, true,
 use Rattle.outside.specs.Files.{Files}
 use Rattle.outside.specs.TreeView.{passes_both}
 use Rattle.outside.specs.Calls.{untouched_both}
-use Rattle.patch_task.specs.Outputs.{verdicts_over}
+use Rattle.apply_task.specs.Outputs.{verdicts_over}
 use Rattle.patch_set.specs.declared.set.Row.{Row}
-use Rattle.file_patch.specs.declared.derived.Target.{Target}
-use Rattle.patch_task.specs.declared.fault.RunFault.{RunFault}
+use Rattle.read_file_patch.specs.declared.derived.Target.{Target}
+use Rattle.apply_task.specs.declared.fault.RunFault.{RunFault}
 use Rattle.patch_run.specs.OnePatch.{bytes_of, lines_in, written, effects_of, tried, tried_said, finished, finished_at}
 use Rattle.patch_run.specs.Doing.{IsDone, IsPartOf, IsOrdered, IsDeviceFault}
-use Rattle.patch_task.specs.TaskView.{plain_task}
-use Rattle.patch_outcome.specs.TurnView.{plain_turn}
+use Rattle.apply_task.specs.TaskView.{plain_task}
+use Rattle.apply_outcome.specs.ContextView.{plain_context}
 use Rattle.patch_run.proofs.Applying.{held_behind, on_err, if_err, if_any, unmade, part_worked, tried_breaks, tried_ordered, tried_done}
-use Rattle.patch_outcome.proofs.Moving.{works_made}
-use Rattle.patch_task.specs.Making.{IsTidy}
-use Rattle.patch_task.proofs.Tidy.{tidy_both, untouched_tidy, attempt_tidy, passed_tidy}
+use Rattle.apply_outcome.proofs.Moving.{works_made}
+use Rattle.apply_task.specs.Making.{IsTidy}
+use Rattle.apply_task.proofs.Tidy.{tidy_both, untouched_tidy, attempt_tidy, passed_tidy}
 use Rattle.patch_run.proofs.EndCause.{end_failed, end_device, try_device, quiet_passed, kept_plan, try_stays, end_stays}
 use Rattle.outside.proofs.Exits.{if_ok_none}
 use Rattle.std.proofs.lemmas.Option.{same_Some, none-some}
@@ -44,7 +44,7 @@ tell_and_make-requires-clause-there g c = c.in_ok-trial.ensures.there
 pub returns-in_err-trial : goal.returns-in_err-trial
 returns-in_err-trial g c = record {
   broken = (
-      let t = plain_turn c.args.turn.now in
+      let t = plain_context c.args.turn.now in
       let u = g.T.Tree.view c.args.tree.now in
       let v = g.T.Tree.view c.try_free.new.tree in
       let d = g.O.Sink.view c.args.out.now in
@@ -57,7 +57,7 @@ returns-in_err-trial g c = record {
       (part_worked w.temp d (effects_of t f s w x) (tried_said t w x) c.written-target.ensures.named.temps.own c.in_err-trial.ensures.works))));
   dry = c.in_err-trial.ensures.dry;
   order = (
-      let t = plain_turn c.args.turn.now in
+      let t = plain_context c.args.turn.now in
       let u = g.T.Tree.view c.args.tree.now in
       let d = g.O.Sink.view c.args.out.now in
       if_any
@@ -86,7 +86,7 @@ returns-in_err-trial g c = record {
 pub returns-in_err-made : goal.returns-in_err-made
 returns-in_err-made g c = record {
   broken = (
-      let t = plain_turn c.args.turn.now in
+      let t = plain_context c.args.turn.now in
       let u = g.T.Tree.view c.args.tree.now in
       let z = g.T.Tree.view c.tell_and_make.new.tree in
       let d = g.O.Sink.view c.args.out.now in
@@ -103,7 +103,7 @@ returns-in_err-made g c = record {
       c.in_err-made.ensures.tree c.in_err-made.ensures.broken))));
   dry = λ dry. untouched_both (c.in_ok-trial.ensures.dry dry) (c.in_err-made.ensures.dry dry);
   order = (
-      let t = plain_turn c.args.turn.now in
+      let t = plain_context c.args.turn.now in
       let u = g.T.Tree.view c.args.tree.now in
       let z = g.T.Tree.view c.tell_and_make.new.tree in
       let d = g.O.Sink.view c.args.out.now in
@@ -149,7 +149,7 @@ returns-in_err-made g c = record {
 pub returns : goal.returns
 returns g c = record {
   whole = λ f told plan.
-      let t = plain_turn c.args.turn.now in
+      let t = plain_context c.args.turn.now in
       let u = g.T.Tree.view c.args.tree.now in
       let z = g.T.Tree.view c.tell_and_make.new.tree in
       let d = g.O.Sink.view c.args.out.now in
@@ -180,7 +180,7 @@ returns g c = record {
   few = omega (arith, c.done_of.ensures.effects, c.in_ok-made.ensures.few);
   placed = λ lines told. inl (
       c.in_ok-trial.ensures.verdicts lines (sym c.in_ok-trial.ensures.keeps.told ∙ told)
-      ∙ ap (λ (r : Row). verdicts_over (plain_turn c.args.turn.now).options r.side (plain_turn c.args.turn.now).item.patch lines) (sym c.done_of.ensures.row));
+      ∙ ap (λ (r : Row). verdicts_over (plain_context c.args.turn.now).options r.side (plain_context c.args.turn.now).item.patch lines) (sym c.done_of.ensures.row));
   stays = record {
     tree = passes_both c.in_ok-trial.ensures.works.passes c.in_ok-made.ensures.tree;
     plan = kept_plan (g.P.LineStore.seen c.args.plan.now) (g.P.LineStore.seen c.try_free.new.plan) c.in_ok-trial.ensures.keeps;
@@ -224,7 +224,7 @@ chosen-source-requires-clause-within g c = c.requires.within
 
 pub returns-in-Some : goal.returns-in-Some
 returns-in-Some g c =
-    let t = plain_turn c.args.turn.now in
+    let t = plain_context c.args.turn.now in
     let u = g.T.Tree.view c.args.tree.now in
     let v = g.T.Tree.view c.try_free.new.tree in
     let w = g.T.Tree.view c.refuse_tried.new.tree in

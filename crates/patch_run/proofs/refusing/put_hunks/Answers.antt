@@ -1,10 +1,10 @@
 use Rattle.outside.specs.TreeView.{passes_none}
 use Rattle.outside.specs.Calls.{untouched_none}
 use Rattle.patch_options.specs.PlainJob.{plain_options}
-use Rattle.patch_task.proofs.Tidy.{tidy_none}
-use Rattle.patch_outcome.specs.Outcome.{rejects_text}
-use Rattle.patch_outcome.specs.TurnView.{plain_turn}
-use Rattle.patch_outcome.proofs.Writing.{rejected_are_hunks}
+use Rattle.apply_task.proofs.Tidy.{tidy_none}
+use Rattle.apply_outcome.specs.Outcome.{rejects_text}
+use Rattle.apply_outcome.specs.ContextView.{plain_context}
+use Rattle.apply_outcome.proofs.Writing.{rejected_are_hunks}
 use Rattle.std.proofs.lemmas.Bool.{false≢true}
 use Rattle.std.proofs.lemmas.Result.{on_ok_weaker}
 use Rattle.std.proofs.Common.{sym, ◌∙◌}
@@ -25,13 +25,13 @@ returns g c = record {
   run = c.swap_rejects.ensures.run;
   put = on_ok_weaker c.swap_rejects.result (λ puts is. puts) c.swap_rejects.ensures.ok;
   quiet = c.swap_rejects.ensures.quiet;
-  tidy = put_tidy (g.T.Tree.view c.args.tree.now) (g.T.Tree.view c.swap_rejects.new.tree) c.args.target.now.reject_temp c.args.target.now.reject (rejects_text (plain_turn c.args.turn.now) c.args.target.now c.args.side c.args.verdicts.now) c.requires.named.lasting.reject c.swap_rejects.result c.swap_rejects.ensures.ok;
+  tidy = put_tidy (g.T.Tree.view c.args.tree.now) (g.T.Tree.view c.swap_rejects.new.tree) c.args.target.now.reject_temp c.args.target.now.reject (rejects_text (plain_context c.args.turn.now) c.args.target.now c.args.side c.args.verdicts.now) c.requires.named.lasting.reject c.swap_rejects.result c.swap_rejects.ensures.ok;
   unsaved = λ no. absurd (false≢true (sym no ∙ c.if-not-saved.false));
 }
 
 pub swap_rejects-requires-clause-hunks : goal.swap_rejects-requires-clause-hunks
 swap_rejects-requires-clause-hunks g c =
-    rejected_are_hunks (plain_options c.args.turn.now.task.options.now) c.args.turn.now.task.set.now.text c.args.turn.now.task.patch.now.change (saves_rejected (plain_turn c.args.turn.now) (c.requires.saves c.if-not-saved.false))
+    rejected_are_hunks (plain_options c.args.turn.now.task.options.now) c.args.turn.now.task.set.now.text c.args.turn.now.task.patch.now.change (saves_rejected (plain_context c.args.turn.now) (c.requires.saves c.if-not-saved.false))
 
 pub swap_rejects-requires-clause-rows : goal.swap_rejects-requires-clause-rows
 swap_rejects-requires-clause-rows g c = c.requires.rows

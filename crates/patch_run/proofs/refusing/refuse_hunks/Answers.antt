@@ -5,16 +5,16 @@ use Rattle.outside.specs.TreeView.{passes_both}
 use Rattle.outside.specs.SinkView.{sink_passes_none, Receives}
 use Rattle.outside.specs.Calls.{IsUntouched, untouched_both}
 use Rattle.outside.proofs.Views.{untouched_quiet}
-use Rattle.file_patch.specs.declared.derived.Target.{Target}
-use Rattle.patch_task.proofs.Tidy.{tidy_both, untouched_tidy}
-use Rattle.patch_outcome.specs.TurnView.{plain_turn}
+use Rattle.read_file_patch.specs.declared.derived.Target.{Target}
+use Rattle.apply_task.proofs.Tidy.{tidy_both, untouched_tidy}
+use Rattle.apply_outcome.specs.ContextView.{plain_context}
 use Rattle.patch_run.specs.Refused.{refused_said, saves_refused, PutsRejects}
 use Rattle.patch_run.proofs.Refused.{unsaved_dry, put_was, end_then}
 use Rattle.patch_run.proofs.refusing.refuse_hunks.Goals as goal
 
 pub returns-in-Ok : goal.returns-in-Ok
 returns-in-Ok g c =
-    let t = plain_turn c.args.turn.now in
+    let t = plain_context c.args.turn.now in
     let saved = c.in-Ok.saved in
     let r = c.save_hunks.result in
     let u = g.T.Tree.view c.args.tree.now in

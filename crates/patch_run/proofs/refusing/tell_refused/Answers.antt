@@ -2,7 +2,7 @@ use Rattle.std.proofs.Common.{ℕ, Bool, List, [], Option, if◌then◌else◌, 
 use Rattle.std.specs.Option.{option_copied}
 use Rattle.outside.proofs.Writing.{writes_is}
 use Rattle.say_text.specs.Messages.{refused_line}
-use Rattle.patch_outcome.specs.TurnView.{plain_turn}
+use Rattle.apply_outcome.specs.ContextView.{plain_context}
 use Rattle.patch_run.specs.OnePatch.{total, shown_reject}
 use Rattle.patch_run.specs.Refused.{refused_said}
 use Rattle.patch_run.proofs.refusing.tell_refused.Goals as goal
@@ -13,7 +13,7 @@ returns-then-is_bare-clause-rest g c = g.met.O.Sink.rest_none _
 pub returns : goal.returns
 returns g c = record {
   writes = (
-      let t = plain_turn c.args.turn.now in
+      let t = plain_context c.args.turn.now in
       let text = c.args.turn.now.task.set.now.text in
       let reject : Option (List ℕ) = if c.args.saved then Some (shown_reject c.args.target.now) else None in
       writes_is c.say_refused.result (refused_said t c.args.target.now c.args.saved) c.say_refused.ensures.writes

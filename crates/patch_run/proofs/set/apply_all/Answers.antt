@@ -3,17 +3,17 @@ use Rattle.std.proofs.lemmas.List.{length-set}
 use Rattle.std.specs.Option.{ForSome}
 use Rattle.outside.specs.Calls.{untouched_none, untouched_both}
 use Rattle.outside.proofs.Exits.{if_ok_none, on_ok_none}
-use Rattle.file_patch.specs.declared.FilePatch.{FilePatch}
-use Rattle.file_patch.specs.PlainPatch.{patch_of, row_count}
+use Rattle.read_file_patch.specs.declared.FilePatch.{FilePatch}
+use Rattle.read_file_patch.specs.PlainPatch.{patch_of, row_count}
 use Rattle.patch_options.specs.PlainJob.{plain_options}
 use Rattle.patch_set.specs.Room.{HaveRoom}
 use Rattle.patch_set.specs.SetView.{SetView, hunks_in, with_row}
-use Rattle.patch_task.specs.Outputs.{verdicts_over}
-use Rattle.patch_outcome.specs.Ready.{AreNumbered, AreWritten, marks, rows_in}
+use Rattle.apply_task.specs.Outputs.{verdicts_over}
+use Rattle.apply_outcome.specs.Ready.{AreNumbered, AreWritten, marks, rows_in}
 use Rattle.patch_run.specs.Doing.{StaysSet, IsUntold}
 use Rattle.patch_run.specs.Applied.{Receipt}
-use Rattle.patch_run.specs.OnePatch.{Mark}
-use Rattle.patch_outcome.proofs.Marks.{patch-there, marks-none, marks-next, mark-alone}
+use Rattle.patch_run.specs.OnePatch.{PastFilePatch}
+use Rattle.apply_outcome.proofs.Marks.{patch-there, marks-none, marks-next, mark-alone}
 use Rattle.patch_run.proofs.Ready.{ready, ready_still, numbered}
 use Rattle.patch_run.proofs.Going.{IsAt, IsNext, run_to, goes_none, goes_on, at_none, at_next}
 use Rattle.patch_run.proofs.RunEnds.{IsPlacedTo, cut_ends, runs_cut, runs_all, receipt_all, placed_none, placed_next, placed_all, placed_earlier, untold_earlier}
@@ -34,7 +34,7 @@ loop-k-init g c =
       rest = g.met.O.Sink.rest_none _;
       dry = λ dry. untouched_none u;
       at = λ f told. at_none u a d g.P.Plan.scratch_after o c.args.set.now c.args.verdicts.now f c.requires.quiet told;
-      written = subst (λ (past : List Mark). AreWritten c.args.written past) (sym (marks-none o c.args.set.now c.args.verdicts.now)) c.requires.written;
+      written = subst (λ (past : List PastFilePatch). AreWritten c.args.written past) (sym (marks-none o c.args.set.now c.args.verdicts.now)) c.requires.written;
       room = c.requires.room;
       placed = λ lines told. placed_none (IsUntold u) o c.args.set.now c.args.verdicts.now lines;
     }
@@ -95,8 +95,8 @@ loop-k-preserved g c =
           (subst (λ (bad : Bool). IsAt u w a b' d h g.P.Plan.scratch_after o (with_row v k done.row) (k + 1) ws bad count (run_to o v (k + 1) f)) is_bad
           (at_next o v k p.0 vs ws next f u x w a b b' d e h was done inv.goes.plan.size ended));
       written = subst (λ (s : SetView). AreWritten c.with_row-written.result (marks o s (k + 1) ws)) noted
-          (subst (λ (past : List Mark). AreWritten c.with_row-written.result past) (sym (marks-next o v k p.0 done.row vs ws places lt inv.rows p.1 next.before))
-          (subst (λ (m : Mark). AreWritten c.with_row-written.result (marks o v k vs ++ m ∷ [])) (mark-alone o v k vs p.0 done.row (rows_in ws p.0))
+          (subst (λ (past : List PastFilePatch). AreWritten c.with_row-written.result past) (sym (marks-next o v k p.0 done.row vs ws places lt inv.rows p.1 next.before))
+          (subst (λ (m : PastFilePatch). AreWritten c.with_row-written.result (marks o v k vs ++ m ∷ [])) (mark-alone o v k vs p.0 done.row (rows_in ws p.0))
           (c.with_row-written.ensures.written o refl (marks o v k vs) p.0 (rows_in ws p.0) p.1 inv.written)));
       room = subst (λ (s : SetView). ForSome c.with_row-written.result (HaveRoom s.patches s.output)) noted c.with_row-written.ensures.room;
       placed = λ lines told.

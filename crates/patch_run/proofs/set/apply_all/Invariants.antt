@@ -5,9 +5,9 @@ use Rattle.outside.specs.Calls.{IsUntouched}
 use Rattle.patch_options.specs.PlainJob.{plain_options}
 use Rattle.patch_set.specs.Room.{HaveRoom}
 use Rattle.patch_set.specs.SetView.{hunks_in}
-use Rattle.patch_start.specs.Devices.{Told}
+use Rattle.apply_start.specs.Devices.{Told}
 use Rattle.patch_run.specs.Doing.{StaysSet, IsUntold}
-use Rattle.patch_outcome.specs.Ready.{AreWritten, marks}
+use Rattle.apply_outcome.specs.Ready.{AreWritten, marks}
 use Rattle.patch_run.proofs.Going.{Goes, IsAt, run_to}
 use Rattle.patch_run.proofs.RunEnds.{IsPlacedTo}
 use Rattle.patch_run.proofs.set.apply_all.Given as goal

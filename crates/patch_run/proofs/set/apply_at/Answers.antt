@@ -3,15 +3,15 @@ use Rattle.std.proofs.lemmas.List.{take_at, drop_at, drop-drop}
 use Rattle.std.proofs.lemmas.List.Elements.{All-get_or}
 use Rattle.std.proofs.lemmas.Result.{IfOk-weaker}
 use Rattle.hunk_core.specs.declared.Verdict.{Verdict}
-use Rattle.file_patch.specs.declared.FilePatch.{FilePatch}
-use Rattle.patch_task.specs.Outputs.{verdicts_over}
-use Rattle.file_patch.specs.PlainPatch.{patch_of, row_count}
+use Rattle.read_file_patch.specs.declared.FilePatch.{FilePatch}
+use Rattle.apply_task.specs.Outputs.{verdicts_over}
+use Rattle.read_file_patch.specs.PlainPatch.{patch_of, row_count}
 use Rattle.patch_options.specs.PlainJob.{plain_options}
 use Rattle.patch_run.specs.Doing.{Does, IsUntold, ArePlaced, IsPlacedOn}
-use Rattle.patch_run.specs.OnePatch.{Mark, PlainTurn, ending}
+use Rattle.patch_run.specs.OnePatch.{PastFilePatch, PlainContext, ending}
 use Rattle.patch_run.specs.Run.{item_of, moved_in}
-use Rattle.patch_outcome.specs.Ready.{IsFit, AreWritten, marks, rows_in, turn_at}
-use Rattle.patch_outcome.proofs.Marks.{place-at, same-patch, all-first, marks-before, rows-last}
+use Rattle.apply_outcome.specs.Ready.{IsFit, AreWritten, marks, rows_in, turn_at}
+use Rattle.apply_outcome.proofs.Marks.{place-at, same-patch, all-first, marks-before, rows-last}
 use Rattle.patch_run.proofs.RunEnds.{placed_rows}
 use Rattle.patch_run.proofs.set.apply_at.Goals as goal
 
@@ -35,7 +35,7 @@ apply_front-requires-clause-turn g c =
       first = refl;
       within = omega (arith, c.requires.within);
       past = all-first v.patches c.args.k q (length c.split_at_mut-before.result.0.now) c.requires.numbered c.requires.within at (omega (arith, c.split_at_mut-before.ensures.front_len));
-      written = subst (λ (past : List Mark). AreWritten c.args.written.now past)
+      written = subst (λ (past : List PastFilePatch). AreWritten c.args.written.now past)
           (sym (marks-before (plain_options c.args.options.now) v c.args.k q c.args.verdicts.now c.split_at_mut-before.result.0.now c.requires.numbered c.requires.within at c.split_at_mut-before.ensures.front)) c.requires.written;
     }
 
@@ -56,13 +56,13 @@ returns g c = record {
       let s = c.split_at_mut-before.ensures in
       let front = c.split_at_mut-before.result.0.now in
       let at : q ≡ get_or v.patches k q = c.index-patches-k.is ∙ ap (λ (l : List FilePatch). get_or l k q) c.patches.ensures.patches in
-      let turn : List Mark → PlainTurn = λ past. record { options = o; output = v.output; item = item_of v.text v.skipped (moved_in v.patches) q; past = past } in
+      let turn : List PastFilePatch → PlainContext = λ past. record { options = o; output = v.output; item = item_of v.text v.skipped (moved_in v.patches) q; past = past } in
       let past : marks o v k front ≡ marks o v k c.args.verdicts.now = marks-before o v k q c.args.verdicts.now front c.requires.numbered c.requires.within at s.front in
-      let D = λ (rows : List Verdict) (t : PlainTurn). Does (g.T.Tree.view c.args.tree.now) (g.T.Tree.view c.apply_front.new.tree) (g.P.LineStore.seen c.args.plan.now) (g.P.LineStore.seen c.apply_front.new.plan) (g.O.Sink.view c.args.out.now) (g.O.Sink.view c.apply_front.new.out) g.P.Plan.scratch_after c.apply_front.result rows (ending t) in
+      let D = λ (rows : List Verdict) (t : PlainContext). Does (g.T.Tree.view c.args.tree.now) (g.T.Tree.view c.apply_front.new.tree) (g.P.LineStore.seen c.args.plan.now) (g.P.LineStore.seen c.apply_front.new.plan) (g.O.Sink.view c.args.out.now) (g.O.Sink.view c.apply_front.new.out) g.P.Plan.scratch_after c.apply_front.result rows (ending t) in
       let does : D (take (row_count q.change) c.apply_front.new.verdicts) (turn (marks o v k front)) = c.apply_front.ensures.does in
       subst (λ (x : FilePatch). D (rows_in (front ++ c.apply_front.new.verdicts) x) (turn_at o v k c.args.verdicts.now x)) (same-patch v.patches k p q c.requires.within here at)
       (subst (λ (l : List Verdict). D l (turn_at o v k c.args.verdicts.now q)) (sym (rows-last front c.apply_front.new.verdicts q s.front_len))
-      (subst (λ (l : List Mark). D (take (row_count q.change) c.apply_front.new.verdicts) (turn l)) past does));
+      (subst (λ (l : List PastFilePatch). D (take (row_count q.change) c.apply_front.new.verdicts) (turn l)) past does));
   before = λ p here.
       let v = c.args.set.now in
       let k = c.args.k in

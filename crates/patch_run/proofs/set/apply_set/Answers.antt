@@ -3,12 +3,12 @@ use Rattle.std.specs.Option.{ForSome}
 use Rattle.std.proofs.lemmas.List.{take_at}
 use Rattle.hunk_core.specs.declared.Verdict.{Verdict}
 use Rattle.outside.specs.Files.{Files}
-use Rattle.file_patch.specs.declared.FilePatch.{FilePatch}
+use Rattle.read_file_patch.specs.declared.FilePatch.{FilePatch}
 use Rattle.patch_options.specs.PlainJob.{plain_options}
 use Rattle.patch_set.specs.Room.{HaveRoom}
 use Rattle.patch_set.specs.SetView.{SetView, without_marks, hunks_in}
-use Rattle.patch_task.specs.declared.fault.RunFault.{RunFault}
-use Rattle.patch_start.specs.Devices.{Told}
+use Rattle.apply_task.specs.declared.fault.RunFault.{RunFault}
+use Rattle.apply_start.specs.Devices.{Told}
 use Rattle.patch_run.specs.Finishes.{HasNames}
 use Rattle.patch_run.specs.Run.{items_of, set_run}
 use Rattle.patch_run.specs.Doing.{Runs, IsCutAt, IsReceipt, IsUntold, IsPlacedLast}

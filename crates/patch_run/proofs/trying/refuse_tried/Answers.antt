@@ -6,8 +6,8 @@ use Rattle.outside.specs.Calls.{untouched_both}
 use Rattle.outside.specs.SinkView.{sink_passes_none, sink_passes_both}
 use Rattle.hunk_core.specs.declared.Verdict.{Verdict}
 use Rattle.hunk_core.specs.declared.Verdict.TheVariants.{Nowhere}
-use Rattle.patch_task.specs.declared.fault.RunFault.{RunFault}
-use Rattle.patch_task.proofs.Tidy.{tidy_both}
+use Rattle.apply_task.specs.declared.fault.RunFault.{RunFault}
+use Rattle.apply_task.proofs.Tidy.{tidy_both}
 use Rattle.patch_run.specs.Doing.{HasEndCause}
 use Rattle.patch_run.proofs.Barred.{begun_wet, begun_dry, begun_for, begun_some, end_after, gone_still, on_any}
 use Rattle.patch_run.proofs.trying.refuse_tried.Goals as goal

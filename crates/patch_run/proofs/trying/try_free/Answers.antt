@@ -4,8 +4,8 @@ use Rattle.outside.specs.Calls.{IsUntouched, untouched_none}
 use Rattle.outside.proofs.Quiet.{works_none}
 use Rattle.outside.proofs.Views.{rises_then}
 use Rattle.line_store.proofs.StoreLemmas.{keeps-more}
-use Rattle.patch_task.proofs.Tidy.{unmade_tidy}
-use Rattle.patch_start.proofs.Trying.{line_cause}
+use Rattle.apply_task.proofs.Tidy.{unmade_tidy}
+use Rattle.apply_start.proofs.Trying.{line_cause}
 use Rattle.patch_run.proofs.Barred.{works_untouched, cause_behind}
 use Rattle.patch_run.proofs.trying.try_free.Goals as goal
 

@@ -3,9 +3,9 @@ use Rattle.std.proofs.lemmas.Bool.{false≢true}
 use Rattle.std.proofs.lemmas.List.{append_cancel_left}
 use Rattle.std.specs.Option.{option_to_list}
 use Rattle.outside.specs.Names.{is_absolute}
-use Rattle.file_patch.specs.Numbered.{number_in}
-use Rattle.file_patch.specs.Targets.{below}
-use Rattle.file_patch.proofs.Names.{numbers-apart, all-join}
+use Rattle.read_file_patch.specs.Numbered.{number_in}
+use Rattle.read_file_patch.specs.Targets.{below}
+use Rattle.read_file_patch.proofs.Names.{numbers-apart, all-join}
 use Rattle.patch_set.specs.Named.{known_names, patch_names}
 use Rattle.patch_set.proofs.laws.numbers_tell_targets_apart.Goals as goal
 

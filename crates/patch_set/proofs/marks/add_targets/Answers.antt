@@ -1,7 +1,7 @@
 use Rattle.std.proofs.Common.{List, take, All, subst, arith}
 use Rattle.std.proofs.lemmas.List.{take_all}
 use Rattle.std.proofs.lemmas.List.Elements.{All-nil, All-more}
-use Rattle.file_patch.specs.declared.derived.Target.{Target}
+use Rattle.read_file_patch.specs.declared.derived.Target.{Target}
 use Rattle.patch_set.specs.Room.{GivesRoom, HasRoom}
 use Rattle.patch_set.proofs.Roomy.{gives-none, gives-both, gives-name, has-name, still-roomy}
 use Rattle.patch_set.proofs.marks.add_targets.Goals as goal

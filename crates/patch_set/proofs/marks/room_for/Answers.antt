@@ -1,8 +1,8 @@
 use Rattle.std.proofs.Common.{List, take, All, subst, arith}
 use Rattle.std.proofs.lemmas.List.{take_all}
 use Rattle.std.proofs.lemmas.List.Elements.{All-nil, All-more}
-use Rattle.file_patch.specs.declared.FilePatch.{FilePatch}
-use Rattle.file_patch.specs.declared.derived.Target.{Target}
+use Rattle.read_file_patch.specs.declared.FilePatch.{FilePatch}
+use Rattle.read_file_patch.specs.declared.derived.Target.{Target}
 use Rattle.patch_set.specs.Room.{HasRoom}
 use Rattle.patch_set.proofs.Roomy.{all-roomy, still-unmarked}
 use Rattle.patch_set.proofs.marks.room_for.Goals as goal

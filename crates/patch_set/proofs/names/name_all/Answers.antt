@@ -1,8 +1,8 @@
 use Rattle.std.proofs.Common.{◌≡◌, ◌∙◌, map, sym, ap, subst, arith}
 use Rattle.std.specs.Option.{option_to_list}
-use Rattle.file_patch.specs.PlainPatch.{patch_of}
+use Rattle.read_file_patch.specs.PlainPatch.{patch_of}
 use Rattle.patch_options.specs.PlainJob.{plain_options}
-use Rattle.file_patch.specs.Numbered.{joined_by}
+use Rattle.read_file_patch.specs.Numbered.{joined_by}
 use Rattle.patch_set.specs.Named.{known_names, output_of, patch_names}
 use Rattle.patch_set.specs.Naming.{AreNamed}
 use Rattle.patch_set.proofs.Joined.{known-all}

@@ -2,7 +2,7 @@ use Rattle.patch_options.specs.PlainJob.{plain_options}
 use Rattle.patch_set.proofs.Joined.{output-last}
 use Rattle.std.proofs.Common.{subst}
 use Rattle.std.proofs.lemmas.Option.{same_Some}
-use Rattle.file_patch.specs.Targets.{HasTemps}
+use Rattle.read_file_patch.specs.Targets.{HasTemps}
 use Rattle.patch_set.proofs.names.name_output.Goals as goal
 
 pub returns-in_ok-target-in-Some : goal.returns-in_ok-target-in-Some

@@ -1,8 +1,8 @@
 use Rattle.std.proofs.Common.{◌≡◌, length, map, refl, ap, ◌∙◌, arith}
 use Rattle.std.proofs.lemmas.List.{length-map}
-use Rattle.file_patch.specs.PlainPatch.{header_of}
+use Rattle.read_file_patch.specs.PlainPatch.{header_of}
 use Rattle.patch_options.specs.PlainJob.{plain_options}
-use Rattle.file_patch.specs.Numbered.{joined_by}
+use Rattle.read_file_patch.specs.Numbered.{joined_by}
 use Rattle.patch_set.specs.Named.{names_of, targets_of, target_in}
 use Rattle.patch_set.proofs.Joined.{names-few}
 use Rattle.outside.proofs.Exits.{on_ok_none}

@@ -3,9 +3,9 @@ use Rattle.patch_options.specs.PlainJob.{plain_options}
 use Rattle.patch_set.proofs.Joined.{joined-nil}
 use Rattle.patch_set.proofs.Walked.{walked-more}
 use Rattle.std.proofs.lemmas.List.{take_all}
-use Rattle.file_patch.specs.declared.FilePatch.{FilePatch}
-use Rattle.file_patch.specs.PlainPatch.{patch_of}
-use Rattle.file_patch.specs.Numbered.{joined_by}
+use Rattle.read_file_patch.specs.declared.FilePatch.{FilePatch}
+use Rattle.read_file_patch.specs.PlainPatch.{patch_of}
+use Rattle.read_file_patch.specs.Numbered.{joined_by}
 use Rattle.patch_set.specs.Named.{patch_names}
 use Rattle.patch_set.specs.Naming.{AreNamed}
 use Rattle.outside.proofs.Exits.{on_ok_none}

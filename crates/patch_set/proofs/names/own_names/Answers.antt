@@ -1,13 +1,13 @@
 use Rattle.std.proofs.Common.{◌≡◌, ◌⊎◌, inl, inr, Bool, true, false, ℕ, List, Option, refl, ap, ◌∙◌}
 use Rattle.std.proofs.lemmas.Result.{IfOk-weaker}
 use Rattle.std.specs.Option.{option_copied}
-use Rattle.header_record.specs.declared.Action.{Action}
-use Rattle.header_record.specs.declared.Action.TheVariants.{Plain, New, Deleted, Rename, Copy}
-use Rattle.file_patch.specs.Actions.{is_moved}
-use Rattle.file_patch.specs.PlainPatch.{PlainHeader, header_of}
+use Rattle.read_header_record.specs.declared.Action.{Action}
+use Rattle.read_header_record.specs.declared.Action.TheVariants.{Plain, New, Deleted, Rename, Copy}
+use Rattle.read_file_patch.specs.Actions.{is_moved}
+use Rattle.read_file_patch.specs.PlainPatch.{PlainHeader, header_of}
 use Rattle.patch_options.specs.PlainJob.{PlainOptions, plain_options}
-use Rattle.file_patch.specs.Candidates.{candidates}
-use Rattle.file_patch.specs.Moved.{moved_names}
+use Rattle.read_file_patch.specs.Candidates.{candidates}
+use Rattle.read_file_patch.specs.Moved.{moved_names}
 use Rattle.patch_set.specs.Asked.{is_posix}
 use Rattle.patch_set.specs.Named.{own_names}
 use Rattle.patch_set.proofs.names.own_names.Goals as goal

@@ -1,8 +1,8 @@
 use Rattle.std.proofs.Common.{◌≡◌, ap, ◌∙◌}
 use Rattle.std.proofs.lemmas.Result.{IfOk-weaker}
 use Rattle.patch_options.specs.PlainJob.{plain_options}
-use Rattle.file_patch.specs.Numbered.{with_name}
-use Rattle.file_patch.specs.Targets.{target_of}
+use Rattle.read_file_patch.specs.Numbered.{with_name}
+use Rattle.read_file_patch.specs.Targets.{target_of}
 use Rattle.patch_set.specs.Named.{target_in}
 use Rattle.patch_set.proofs.names.target.Goals as goal
 

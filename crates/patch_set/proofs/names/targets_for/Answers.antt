@@ -2,9 +2,9 @@ use Rattle.std.proofs.Common.{◌≡◌, ◌+◌, ◌∷◌, ◌++◌, [], List,
 use Rattle.std.proofs.lemmas.List.{take_more, take_all}
 use Rattle.std.proofs.lemmas.List.Elements.{All-push}
 use Rattle.patch_options.specs.PlainJob.{plain_options}
-use Rattle.file_patch.specs.declared.derived.Target.{Target}
-use Rattle.file_patch.specs.Numbered.{with_name, joined_by}
-use Rattle.file_patch.specs.Targets.{HasTemps}
+use Rattle.read_file_patch.specs.declared.derived.Target.{Target}
+use Rattle.read_file_patch.specs.Numbered.{with_name, joined_by}
+use Rattle.read_file_patch.specs.Targets.{HasTemps}
 use Rattle.patch_set.specs.Named.{target_in}
 use Rattle.patch_set.proofs.Joined.{AreTargets, joined-nil, known-more, targets-more}
 use Rattle.outside.proofs.Exits.{if_ok_none, on_ok_none}

@@ -1,7 +1,7 @@
 use Rattle.std.proofs.Common.{◌≡◌, take, All}
 use Rattle.patch_options.specs.PlainJob.{plain_options}
-use Rattle.file_patch.specs.Numbered.{joined_by}
-use Rattle.file_patch.specs.Targets.{HasTemps}
+use Rattle.read_file_patch.specs.Numbered.{joined_by}
+use Rattle.read_file_patch.specs.Targets.{HasTemps}
 use Rattle.patch_set.proofs.Joined.{AreTargets}
 use Rattle.patch_set.proofs.names.targets_for.Given as goal
 

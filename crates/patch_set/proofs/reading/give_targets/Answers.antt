@@ -1,5 +1,5 @@
 use Rattle.std.proofs.Common.{◌≡◌, ◌⊎◌, Some, Ok, inr, map, subst, sym}
-use Rattle.file_patch.specs.PlainPatch.{patch_of}
+use Rattle.read_file_patch.specs.PlainPatch.{patch_of}
 use Rattle.patch_options.specs.PlainJob.{plain_options}
 use Rattle.patch_set.specs.declared.fault.SetFault.TheVariants as faults
 use Rattle.patch_set.specs.Refusals.{garbage, out_many, ed_reverse, reserved, refusal_of}

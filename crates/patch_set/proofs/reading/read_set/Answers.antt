@@ -1,10 +1,10 @@
 use Rattle.std.proofs.Common.{◌≡◌, Ok, All, subst, ap, map, length, arith}
 use Rattle.std.proofs.lemmas.Bool.{le-ltb}
-use Rattle.file_patch.specs.Absent.{IsLawfulPatch}
-use Rattle.file_patch.specs.PlainPatch.{patch_of}
+use Rattle.read_file_patch.specs.Absent.{IsLawfulPatch}
+use Rattle.read_file_patch.specs.PlainPatch.{patch_of}
 use Rattle.patch_options.specs.PlainJob.{plain_options}
-use Rattle.patch_text.specs.Patches.{patches_of}
-use Rattle.patch_text.specs.Regions.{region_of, regions_of}
+use Rattle.read_patch_text.specs.Patches.{patches_of}
+use Rattle.read_patch_text.specs.Regions.{region_of, regions_of}
 use Rattle.patch_set.specs.Asked.{ways_of}
 use Rattle.patch_set.specs.SetView.{Meets, IsRead, IsSetOf}
 use Rattle.patch_set.specs.Spans.{ArePlaced}

@@ -1,7 +1,7 @@
 use Rattle.std.proofs.Common.{rules, tests}
 use Rattle.std.proofs.lemmas.Iterator.{YieldsList-from_slice}
 use Rattle.std.proofs.lemmas.Iterator.Search.{any_from_yields_List}
-use Rattle.file_patch.specs.Targets.{is_reserved}
+use Rattle.read_file_patch.specs.Targets.{is_reserved}
 use Rattle.patch_set.proofs.refusals.any_reserved.Goals as goal
 
 pub returns : goal.returns

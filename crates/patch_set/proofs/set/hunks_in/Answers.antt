@@ -1,6 +1,6 @@
 use Rattle.std.proofs.Common.{◌+◌, [], take, sym, ap, ◌∙◌, arith}
 use Rattle.std.proofs.lemmas.List.Sums.{sum_by_more, sum_by_more_le}
-use Rattle.file_patch.specs.PlainPatch.{row_count}
+use Rattle.read_file_patch.specs.PlainPatch.{row_count}
 use Rattle.patch_set.specs.SetView.{hunks_in}
 use Rattle.patch_set.proofs.Named.{rows-counted}
 use Rattle.std.proofs.lemmas.List.{take_all}

@@ -1,7 +1,7 @@
 use Rattle.std.proofs.Common.{◌≡◌, ◌<◌, ◌-◌, ℕ, Option, None, Some, List, [], ◌∷◌, ◌++◌, length, refl, ap, ◌∙◌, arith}
 use Rattle.std.specs.Prelude.{IsSome, slice_index_or}
 use Rattle.std.specs.Option.{option_to_list}
-use Rattle.file_patch.specs.Candidates.{header_candidate}
+use Rattle.read_file_patch.specs.Candidates.{header_candidate}
 use Rattle.patch_set.proofs.skipped.candidate.Goals as goal
 
 -- the last one of at most one name

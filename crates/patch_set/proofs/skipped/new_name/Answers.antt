@@ -1,7 +1,7 @@
 use Rattle.std.proofs.Common.{◌≡◌, Some, sym, ap, ◌∙◌}
 use Rattle.std.proofs.lemmas.Result.{IfOk-weaker}
 use Rattle.std.specs.Option.{option_copied}
-use Rattle.file_patch.specs.Candidates.{header_candidate}
+use Rattle.read_file_patch.specs.Candidates.{header_candidate}
 use Rattle.patch_set.specs.Skipped.{new_name}
 use Rattle.patch_set.proofs.skipped.new_name.Goals as goal
 

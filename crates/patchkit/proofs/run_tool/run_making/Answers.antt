@@ -1,4 +1,4 @@
-use Rattle.run_answers.proofs.Writes.{writes_part}
+use Rattle.cli_run_answers.proofs.Writes.{writes_part}
 use Rattle.patch_run.proofs.Written.{writes_whole}
 use Rattle.patchkit.proofs.run_tool.run_making.Goals as goal
 

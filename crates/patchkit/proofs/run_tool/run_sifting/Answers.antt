@@ -1,6 +1,6 @@
 use Rattle.std.proofs.Common.{refl, map, string_bytes}
-use Rattle.run_answers.specs.Reasons.{refusal_line}
-use Rattle.run_answers.proofs.Writes.{writes_part}
+use Rattle.cli_run_answers.specs.Reasons.{refusal_line}
+use Rattle.cli_run_answers.proofs.Writes.{writes_part}
 use Rattle.patchkit.proofs.Ends.{runs_as}
 use Rattle.patch_run.proofs.Written.{writes_whole}
 use Rattle.patchkit.proofs.run_tool.run_sifting.Goals as goal

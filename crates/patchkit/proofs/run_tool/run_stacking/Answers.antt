@@ -1,8 +1,8 @@
 use Rattle.std.proofs.Common.{map, string_bytes}
-use Rattle.run_answers.proofs.Writes.{writes_part}
+use Rattle.cli_run_answers.proofs.Writes.{writes_part}
 use Rattle.patch_run.proofs.Written.{writes_whole}
-use Rattle.stack_cli.specs.InTurn.{OneRuns, devices}
-use Rattle.stack_cli.specs.Jobs.{all_of, job_of}
+use Rattle.cli_stack.specs.InTurn.{OneRuns, devices}
+use Rattle.cli_stack.specs.Jobs.{all_of, job_of}
 use Rattle.patchkit.proofs.Ends.{ends_as}
 use Rattle.patchkit.proofs.run_tool.run_stacking.Goals as goal
 

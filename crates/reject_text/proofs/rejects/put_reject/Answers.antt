@@ -1,4 +1,4 @@
-use Rattle.file_patch.specs.PlainPatch.{change_of, AreLawfulHunks, IsLawfulChange, row_count}
+use Rattle.read_file_patch.specs.PlainPatch.{change_of, AreLawfulHunks, IsLawfulChange, row_count}
 use Rattle.reject_text.specs.Rejects.{hunks_in, rows_of, rejects, AreHunks, reject_text}
 use Rattle.reject_text.proofs.Again.{read-again}
 use Rattle.reject_text.proofs.Unbroken.{rejects-unbroken, rejects-clean}
@@ -6,7 +6,7 @@ use Rattle.std.proofs.Common.{ℕ, List, length, ap, sym, subst, ◌∙◌}
 use Rattle.outside.specs.Puts.{Puts}
 use Rattle.hunk_core.specs.declared.Hunk.{Hunk}
 use Rattle.hunk_core.specs.PlainHunk.{hunks_of}
-use Rattle.file_patch.specs.declared.Change.{Change}
+use Rattle.read_file_patch.specs.declared.Change.{Change}
 use Rattle.reject_text.proofs.rejects.put_reject.Goals as goal
 
 pub returns-clause-unbroken : goal.returns-clause-unbroken

@@ -3,8 +3,8 @@ use Rattle.std.proofs.lemmas.Option.{get_or_from_slice_get, same_Some}
 use Rattle.hunk_core.specs.declared.Verdict.{Verdict}
 use Rattle.outside.specs.SinkView.{Writes}
 use Rattle.outside.proofs.Writing.{writes_is}
-use Rattle.file_patch.specs.declared.FilePatch.{FilePatch}
-use Rattle.file_patch.specs.PlainPatch.{IsLawfulChange, change_of}
+use Rattle.read_file_patch.specs.declared.FilePatch.{FilePatch}
+use Rattle.read_file_patch.specs.PlainPatch.{IsLawfulChange, change_of}
 use Rattle.patch_set.specs.SetView.{verdicts_in}
 use Rattle.patch_set.proofs.Verdicts.{verdicts-within}
 use Rattle.reject_text.specs.Rejects.{hunks_in, reject_text}

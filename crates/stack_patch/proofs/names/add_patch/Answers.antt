@@ -2,7 +2,7 @@ use Rattle.std.proofs.Common.{◌≡◌, ◌+◌, ◌++◌, ◌∷◌, [], List,
 use Rattle.std.specs.List.{fold}
 use Rattle.std.proofs.lemmas.List.{take_all, take_more}
 use Rattle.std.proofs.lemmas.List.Sums.{fold-append}
-use Rattle.file_patch.specs.declared.derived.Target.{Target}
+use Rattle.read_file_patch.specs.declared.derived.Target.{Target}
 use Rattle.stack_patch.specs.Gathering.{Gathered, gathered, with_target}
 use Rattle.stack_patch.proofs.names.add_patch.Goals as goal
 

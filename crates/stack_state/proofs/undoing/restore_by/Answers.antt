@@ -1,4 +1,4 @@
-use Rattle.patch_task.specs.declared.fault.RunFault.TheVariants.{Tree, Memory}
+use Rattle.apply_task.specs.declared.fault.RunFault.TheVariants.{Tree, Memory}
 use Rattle.stack_state.proofs.Restoring.{restored_whole, restored_part, tree_failed}
 use Rattle.stack_state.proofs.undoing.restore_by.Goals as goal
 

@@ -1,6 +1,6 @@
 use Rattle.std.proofs.Common.{length, get_or, ap, ◌∙◌, arith}
 use Rattle.std.proofs.lemmas.Option.{get_or_from_slice_get}
-use Rattle.file_patch.specs.PlainPatch.{header_of}
+use Rattle.read_file_patch.specs.PlainPatch.{header_of}
 use Rattle.patch_set.specs.PlainName.{plain_name}
 use Rattle.patch_set.specs.SetView.{SetView}
 use Rattle.patch_set.proofs.set.PatchSet.plain_name.Goals as goal

@@ -1,6 +1,6 @@
 use Rattle.std.proofs.Common.{Option, is_some, sym, subst, ap, ◌∙◌}
 use Rattle.std.specs.Option.{ForSome}
-use Rattle.outside.specs.declared.marks.NameMarks.{NameMarks}
+use Rattle.outside.specs.declared.marks.WrittenNames.{WrittenNames}
 use Rattle.patch_set.specs.Room.{AreUnmarked, HaveRoom}
 use Rattle.patch_set.specs.SetView.{SetView, without_marks}
 use Rattle.patch_set.proofs.Roomy.{none-blank, whole-still}
@@ -11,15 +11,15 @@ invariant_of-self c = (whole-still _ (is_some c.take.new.self) c.self.invariant.
 
 pub returns : goal.returns
 returns c = record {
-  unmarked = subst (λ (x : Option NameMarks). ForSome x AreUnmarked) (sym c.take.ensures.value) c.self.invariant.1.unmarked;
+  unmarked = subst (λ (x : Option WrittenNames). ForSome x AreUnmarked) (sym c.take.ensures.value) c.self.invariant.1.unmarked;
   room = (
       let fields = c.self.inside in
       subst (λ (s : SetView). ForSome c.take.result (HaveRoom s.patches s.output)) c.self.view_is
-      (subst (λ (x : Option NameMarks). ForSome x (HaveRoom fields.patches.items fields.output)) (sym c.take.ensures.value) c.self.invariant.1.room));
+      (subst (λ (x : Option WrittenNames). ForSome x (HaveRoom fields.patches.items fields.output)) (sym c.take.ensures.value) c.self.invariant.1.room));
   handed = ap is_some c.take.ensures.value ∙ ap (λ (s : SetView). s.has_marks) c.self.view_is;
   left = (
       let fields = c.self.inside in
-      let seen : Option NameMarks → SetView = λ marks. record {
+      let seen : Option WrittenNames → SetView = λ marks. record {
         text = fields.text.items;
         ways = fields.ways;
         patches = fields.patches.items;

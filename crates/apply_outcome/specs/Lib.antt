@@ -1,0 +1,4 @@
+pub mod HunksSaid
+pub mod Outcome
+pub mod Ready
+pub mod ContextView

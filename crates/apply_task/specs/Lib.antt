@@ -1,0 +1,12 @@
+pub mod Kinds
+pub mod Asking
+pub mod Times
+pub mod Contexts
+pub mod Ready
+pub mod TaskView
+pub mod LineEnds
+pub mod Outputs
+pub mod Faults
+pub mod Making
+pub mod Named
+pub mod TargetEffects

@@ -1,5 +1,0 @@
-use Rattle.clean_text.proofs.LineForLine.{line-for-line}
-use Rattle.clean_text.proofs.laws.cleaned_line_for_line.Goals as goal
-
-pub returns : goal.returns
-returns c = line-for-line

@@ -1,0 +1,34 @@
+use Rattle.std.proofs.Common.{refl, subst}
+use Rattle.cli_tool_words.specs.PlainJobs.{plain_filter_job, plain_style}
+use Rattle.filter_style.specs.Memory.{memory_view}
+use Rattle.filter_style.specs.Styled.{restyled}
+use Rattle.cli_filter.specs.Converting.{convert_outcome}
+use Rattle.cli_filter.specs.Styling.{PutsText}
+use Rattle.cli_filter.proofs.Styled.{forms-fault, forms-on}
+use Rattle.cli_filter.proofs.styling.convert_restyled.Goals as goal
+
+pub returns-in-Ok : goal.returns-in-Ok
+returns-in-Ok g c =
+    let j = plain_filter_job c.args.job.now in
+    let text = c.run_convert.new.out.bytes.items in
+    let x = c.args.out.now in
+    let y = c.put_restyled.new.out in
+    let put : PutsText g.O.Sink.view g.O.Sink.same_rest x y c.put_restyled.result (restyled j.style text) =
+    subst (λ s. PutsText g.O.Sink.view g.O.Sink.same_rest x y c.put_restyled.result (restyled (plain_style s) text)) c.run_convert.ensures.style c.put_restyled.ensures in
+    record {
+      forms = rw c.of_put.ensures
+          (forms-on c.args.form j j.style (convert_outcome c.args.form j) _ _ _ _ text (memory_view c.new-memory.result) (memory_view c.run_convert.new.out)
+          (g.O.Sink.view x) (g.O.Sink.view y) c.put_restyled.result c.new-memory.ensures refl c.in-Ok.ensures.forms put.passes put.received put.failed put.cause);
+      unread = c.run_convert.ensures.unread;
+      rest = put.rest;
+    }
+
+pub returns-in-Err : goal.returns-in-Err
+returns-in-Err g c = record {
+  forms = let j = plain_filter_job c.args.job.now in
+      rw c.form_in_memory.ensures
+      (forms-fault c.args.form j j.style (convert_outcome c.args.form j) _ _ _ _ c.in-Err.fault (memory_view c.new-memory.result) (memory_view c.run_convert.new.out)
+      (g.O.Sink.view c.args.out.now) c.in-Err.ensures.forms);
+  unread = c.run_convert.ensures.unread;
+  rest = g.met.O.Sink.rest_none c.args.out.now;
+}

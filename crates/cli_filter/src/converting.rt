@@ -1,0 +1,69 @@
+//! `filterdiff` with a form: the file patches that it means, written anew in that form.
+ghost use Rattle.std.specs.Prelude.{◌≡◌, None, Ok, IfSome};
+ghost use Rattle.cli_tool_words.specs.PlainJobs.{plain_filter_job};
+ghost use Rattle.cli_run_answers.specs.Input.{IsFile};
+ghost use Rattle.patch_set.specs.SetView.{plain_patches};
+ghost use Rattle.format_convert.specs.Taken.{left_patches};
+ghost use Rattle.format_convert.specs.Converted.{Converts, converted};
+ghost use Rattle.format_convert.specs.Refusals.{refusal};
+ghost use Rattle.cli_filter.specs.Converting.{Forms, convert_outcome, of_converted};
+
+use crate::form_fault::FormFault;
+use cli_tool_words::FilterJob;
+use filter_whole_text::open_text;
+use format_convert::{ConvertFault, convert_patches};
+use hunk_core::Form;
+use outside::{Sink, Source, Tree};
+use patch_set::PatchSet;
+use std::alloc::Global;
+
+/// Carries out a command of `filterdiff` that asks for a form: the file patches that it means are written anew in this form, or
+/// the first one is told that can't be.
+pub fn run_convert<T: Tree, I: Source, O: Sink>(
+    alloc: Global,
+    job: &mut FilterJob,
+    form: Form,
+    tree: &mut T,
+    source: &mut I,
+    out: &mut O,
+) -> Result<(), FormFault>
+    ensures forms { Forms form (plain_filter_job job.old) (convert_outcome form (plain_filter_job job.old)) (T.view tree.old) (T.view tree.new) (I.view source.old) (I.view source.new) (O.view out.old) (O.view out.new) result }
+    ensures style { job.new.style ≡ job.old.style }
+    ensures unread { IsFile job.old.input → source.new ≡ source.old }
+    ensures rest { O.same_rest out.old out.new }
+{
+    match open_text(alloc, &job.input, &mut job.select, tree, source) {
+        Ok(opened) => {
+            let answer = form_answer(put_converted(&opened, job, form, out));
+            drop(opened);
+            answer
+        }
+        Err(fault) => Err(FormFault::Filter(fault)),
+    }
+}
+
+/// Writes the file patches that are meant in the form, where there are some.
+fn put_converted<O: Sink>(
+    opened: &Option<PatchSet>,
+    job: &FilterJob,
+    form: Form,
+    out: &mut O,
+) -> Result<(), ConvertFault>
+    ensures converts { IfSome opened.now (λ set. Converts O.view O.same_rest out.old out.new result (refusal form (left_patches (plain_filter_job job.now) (plain_patches set))) (converted form (plain_filter_job job.now) set)) }
+    ensures none { opened.now ≡ None → (result ≡ Ok tt) × (out.new ≡ out.old) }
+    ensures rest { O.same_rest out.old out.new }
+{
+    match opened {
+        Some(set) => convert_patches(set, job, form, out),
+        None => Ok(()),
+    }
+}
+
+fn form_answer(converted: Result<(), ConvertFault>) -> Result<(), FormFault>
+    ensures { result ≡ of_converted converted }
+{
+    match converted {
+        Ok(()) => Ok(()),
+        Err(fault) => Err(FormFault::from(fault)),
+    }
+}

@@ -1,5 +1,0 @@
-use Rattle.context_form.proofs.Words.{opening-words, zero-words, alone-words, other-words, two-words}
-use Rattle.context_form.proofs.laws.grammar_in_words.Goals as goal
-
-pub returns : goal.returns
-returns c = record { opening = opening-words; zero = zero-words; alone = alone-words; other = other-words; two = two-words }

@@ -1,4 +1,0 @@
-use Rattle.page_tests.proofs.spoiling.SpoilingScratchScratch.restart.Goals as goal
-
-pub returns-clause-call : goal.returns-clause-call
-returns-clause-call c = c.counted.ensures.call _ _

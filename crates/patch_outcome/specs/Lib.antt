@@ -1,4 +1,0 @@
-pub mod HunksSaid
-pub mod Outcome
-pub mod Ready
-pub mod TurnView

@@ -1,9 +1,0 @@
-use Rattle.reading_law.proofs.FlipReading.{reads-law}
-use Rattle.reading_law.proofs.Stretches.{shown-law}
-use Rattle.reading_law.proofs.flip_laws.flip_reads.Goals as goal
-
-pub returns-clause-read : goal.returns-clause-read
-returns-clause-read c = λ v whole none. reads-law v whole none
-
-pub returns-clause-shown : goal.returns-clause-shown
-returns-clause-shown c = λ v whole. shown-law v whole

@@ -1,0 +1,11 @@
+use Rattle.sys_devices.proofs.Silent.{if_ok, is_call, untouched}
+use Rattle.sys_devices.proofs.disk.DiskTree.has_dir.Goals as goal
+
+pub returns-clause-call : goal.returns-clause-call
+returns-clause-call g c = is_call _ _ _ c.answer.ensures.counts c.answer.ensures.cause
+
+pub returns-clause-untouched : goal.returns-clause-untouched
+returns-clause-untouched g c = untouched _ _ c.answer.ensures.counts
+
+pub returns-clause-there : goal.returns-clause-there
+returns-clause-there g c = if_ok _ _

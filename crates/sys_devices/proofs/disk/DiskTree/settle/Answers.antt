@@ -1,0 +1,21 @@
+use Rattle.std.proofs.Common.{refl}
+use Rattle.sys_devices.proofs.Silent.{is_call, on_ok, sealed, settled}
+use Rattle.sys_devices.proofs.disk.DiskTree.settle.Goals as goal
+
+pub returns-clause-call : goal.returns-clause-call
+returns-clause-call g c = is_call _ _ _ c.answer.ensures.counts c.answer.ensures.cause
+
+pub returns-clause-sealed : goal.returns-clause-sealed
+returns-clause-sealed g c = on_ok _ sealed
+
+pub returns-clause-settled : goal.returns-clause-settled
+returns-clause-settled g c = settled _ _
+
+pub returns-clause-same : goal.returns-clause-same
+returns-clause-same g c = refl
+
+pub returns-clause-seals : goal.returns-clause-seals
+returns-clause-seals g c q was = was
+
+pub returns-clause-crash : goal.returns-clause-crash
+returns-clause-crash g c x left = left

@@ -1,0 +1,17 @@
+use Rattle.sys_devices.proofs.Silent.{becomes, is_call, quiet, spoils}
+use Rattle.sys_devices.proofs.disk.DiskTree.start.Goals as goal
+
+pub returns-clause-call : goal.returns-clause-call
+returns-clause-call g c = is_call _ _ _ c.answer.ensures.counts c.answer.ensures.cause
+
+pub returns-clause-ok : goal.returns-clause-ok
+returns-clause-ok g c = becomes _ _
+
+pub returns-clause-err : goal.returns-clause-err
+returns-clause-err g c = spoils _ _
+
+pub returns-clause-seals : goal.returns-clause-seals
+returns-clause-seals g c q ne was = was
+
+pub returns-clause-quiet : goal.returns-clause-quiet
+returns-clause-quiet g c = quiet _ _ _
