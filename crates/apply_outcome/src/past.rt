@@ -102,7 +102,7 @@ pub fn was_written(turn: &FilePatchContext<'_>, name: &Name) -> bool
     }
 }
 
-/// The same by a walk over them.
+/// Whether one of the file patches before made or took away this name, by a walk over them.
 fn is_found_written(turn: &FilePatchContext<'_>, name: &Name) -> bool
     requires turn { IsContext turn.now }
     ensures { result ≡ was_written (plain_context turn.now).past name.now }

@@ -60,7 +60,7 @@ pub fn put_rejects<T: Tree>(
     }
 }
 
-/// The same where they are.
+/// Puts those reject texts, of a file patch of which hunks were rejected.
 pub fn swap_rejects<T: Tree>(
     turn: &FilePatchContext<'_>,
     target: &Target,

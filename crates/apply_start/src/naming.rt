@@ -52,7 +52,7 @@ fn renamed_from<'a>(task: &Task<'a>, place: u32) -> Origin<'a>
     }
 }
 
-/// The same where the rename was done before: the name that the file then had.
+/// Where the file comes from if the rename was done before: the name that it then had.
 fn renamed_before<'a>(task: &Task<'a>) -> Origin<'a>
     requires task { IsTask task.now }
     ensures origin { plain_origin result ≡ renamed_before (slice_get (plain_task task.now).item.targets (source_at (plain_task task.now).options.reverse)) }

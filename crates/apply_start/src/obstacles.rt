@@ -151,7 +151,7 @@ fn obstacle_of_kind<'a, T: Tree>(
     }
 }
 
-/// The same of the name that a file is to get, and of the output that the options name, which is never a link.
+/// What is in the way at the name that a file is to get, and at the output that the options name, which is never a link.
 fn obstacle_to_target<'a, T: Tree>(
     task: &Task<'a>,
     place: u32,
@@ -184,7 +184,7 @@ fn is_apart(task: &Task<'_>) -> bool
     task.options.output.is_some() || task.patch.is_moved()
 }
 
-/// The same of the backups: of a rename the source has one too.
+/// What is in the way of the backups: of a rename the source has one too.
 fn obstacle_to_backups<'a, T: Tree>(
     task: &Task<'a>,
     place: u32,
@@ -227,7 +227,7 @@ fn keeps_source(task: &Task<'_>) -> bool
     task.options.backup && renames(task.patch)
 }
 
-/// The same of one backup, where that is asked for: it is what stands at the target's name.
+/// What is in the way of one backup, where that is asked for: it is what stands at the target's name.
 pub fn obstacle_to_backup<'a, T: Tree>(
     target: &'a Target,
     is_asked: bool,
@@ -279,7 +279,7 @@ fn ask_if<T: Tree>(counts: bool, name: &Name, link: bool, tree: &mut T) -> Resul
     Ok(barred)
 }
 
-/// The same of the reject file, where one is asked for.
+/// What is in the way of the reject file, where one is asked for.
 pub fn obstacle_to_rejects<'a, T: Tree>(
     target: &'a Target,
     is_asked: bool,

@@ -81,7 +81,7 @@ pub fn written<'a>(task: &Task<'a>, place: u32) -> &'a Target
     }
 }
 
-/// The same without an output of the options.
+/// The target that is written, where the options name no output.
 fn own_written<'a>(task: &Task<'a>, place: u32) -> &'a Target
     requires task { IsTask task.now }
     requires within { place < length task.now.patch.now.targets.items }

@@ -149,11 +149,11 @@ HasEndCause (Disagree want got) u w c d = ⊥
 HasEndCause Memory u w c d = ⊥
 
 -- what came of the hunks is told by these counts and verdicts, and the temporary holds the output, but in a dry run
-pub record IsOutcome (dry : Bool) (u : TreeView) (session : Session) (temp : List ℕ) (from : Side) (vs : List Verdict) (end : Option Bool) (x : Tried) : Type 0 where
+pub record IsOutcome (dry : Bool) (u : TreeView) (session : Session) (temp : List ℕ) (from : Side) (vs : List Verdict) (first : Option Bool) (x : Tried) : Type 0 where
   pub side : x.side ≡ from
   pub verdicts : x.verdicts ≡ vs
   pub counts : IsSession session x.verdicts x.text
-  pub end : x.end ≡ end
+  pub end : x.end ≡ first
   pub holds : dry ≡ false → Holds u temp x.output
 
 -- all is said, the effects are made whole, and what was done is what they are; the temporary is gone, but in a dry run

@@ -79,7 +79,7 @@ pub fn apply_set<P: Plan, T: Tree, O: Sink>(
     applied
 }
 
-/// The same while the verdicts are taken from the set.
+/// All file patches of a set, while the verdicts are taken from it.
 fn apply_all<P: Plan, T: Tree, O: Sink>(
     set: &mut PatchSet,
     options: &Options,

@@ -112,7 +112,7 @@ fn obstacle_behind<'n, T: Tree>(
     }
 }
 
-/// The same of the backups alone: of a rename the source has one too.
+/// What is in the way of the backups alone: of a rename the source has one too.
 fn obstacle_to_kept<'n, T: Tree>(
     turn: &FilePatchContext<'_>,
     source: &'n Target,

@@ -64,7 +64,7 @@ returns-in-Untried g c = record {
 }
 
 pub base-requires : goal.base-requires
-base-requires g c = c.requires.lawful.few
+base-requires g c = omega (arith, c.args.hunk.now.body.ok.0, c.requires.lawful.few)
 
 pub ends_otherwise-apart-requires : goal.ends_otherwise-apart-requires
 ends_otherwise-apart-requires g c = record { lawful = c.requires.lawful }

@@ -41,4 +41,4 @@ pub first_on-requires : goal.first_on-requires
 first_on-requires c = record { lawful = c.requires.lawful }
 
 pub count-requires : goal.count-requires
-count-requires c = c.requires.lawful.few
+count-requires c = omega (arith, c.args.hunk.now.body.ok.0, c.requires.lawful.few)

@@ -19,4 +19,4 @@ pub pattern-requires-clause-lawful : goal.pattern-requires-clause-lawful
 pattern-requires-clause-lawful c = c.requires.lawful
 
 pub count-requires : goal.count-requires
-count-requires c = c.requires.lawful.few
+count-requires c = omega (arith, c.args.hunk.now.body.ok.0, c.requires.lawful.few)

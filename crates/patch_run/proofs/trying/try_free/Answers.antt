@@ -1,10 +1,10 @@
-use Rattle.std.proofs.Common.{Err, refl, sym, ◌∙◌, subst}
+use Rattle.std.proofs.Common.{refl, sym, ◌∙◌, subst}
 use Rattle.outside.specs.TreeView.{told_on}
 use Rattle.outside.specs.Calls.{IsUntouched, untouched_none}
 use Rattle.outside.proofs.Quiet.{works_none}
 use Rattle.outside.proofs.Views.{rises_then}
 use Rattle.line_store.proofs.StoreLemmas.{keeps-more}
-use Rattle.apply_task.proofs.Tidy.{unmade_tidy}
+use Rattle.apply_task.proofs.Tidy.{tidy_none, unless_held}
 use Rattle.apply_start.proofs.Trying.{line_cause}
 use Rattle.patch_run.proofs.Barred.{works_untouched, cause_behind}
 use Rattle.patch_run.proofs.trying.try_free.Goals as goal
@@ -25,7 +25,7 @@ returns-in-Err g c =
       verdicts = tt;
       tried = tt;
       rows = refl;
-      tidy = unmade_tidy u (Err c.in-Err.fault);
+      tidy = unless_held c.in-Err.fault (tidy_none u);
       free = tt;
     }
 
