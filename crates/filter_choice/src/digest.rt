@@ -11,7 +11,7 @@ ghost use Rattle.patch_set.specs.Refusals.{refusal, refusal_of};
 ghost use Rattle.patch_set.specs.SetView.{Meets};
 
 use patch_options::Options;
-use patch_set::{SetFault, give_targets, plain_name, ways_of, whole_text};
+use patch_set::{SetFault, plain_name, refuse, ways_of, whole_text};
 use read_file_patch::FilePatch;
 use read_patch_text::{Digests, read_digests};
 use std::alloc::Global;
@@ -104,10 +104,10 @@ fn digest_of(
     ensures are { IfOk result (λ d. AreDigests text.items d.patches d.olds) }
     ensures refused { Meets (refusal_of (plain_options options.now) text.items (Ok (map (patch_of text.items) digests.patches.items))) result }
 {
-    match give_targets(alloc, &text, options, digests.patches) {
-        Ok(named) => Ok(HunkIndex {
+    match refuse(alloc, &text, options, &digests.patches) {
+        Ok(()) => Ok(HunkIndex {
             text,
-            patches: named.patches,
+            patches: digests.patches,
             olds: digests.olds,
         }),
         Err(fault) => Err(fault),

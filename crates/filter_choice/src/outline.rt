@@ -10,7 +10,7 @@ ghost use Rattle.patch_set.specs.Refusals.{refusal, refusal_of};
 ghost use Rattle.patch_set.specs.SetView.{Meets};
 
 use patch_options::Options;
-use patch_set::{SetFault, give_targets, plain_name, ways_of, whole_text};
+use patch_set::{SetFault, plain_name, refuse, ways_of, whole_text};
 use read_file_patch::FilePatch;
 use read_patch_text::read_outlines;
 use std::alloc::Global;
@@ -87,11 +87,8 @@ fn outline_of(
     ensures plain { IfOk result (λ o. map (patch_of text.items) o.patches ≡ map (patch_of text.items) patches.items) }
     ensures refused { Meets (refusal_of (plain_options options.now) text.items (Ok (map (patch_of text.items) patches.items))) result }
 {
-    match give_targets(alloc, &text, options, patches) {
-        Ok(named) => Ok(FilePatchList {
-            text,
-            patches: named.patches,
-        }),
+    match refuse(alloc, &text, options, &patches) {
+        Ok(()) => Ok(FilePatchList { text, patches }),
         Err(fault) => Err(fault),
     }
 }

@@ -117,8 +117,9 @@ pub fn read_whole<F: HunkForm>(
 {
     let mut whole = Whole {
         form,
-        items: Vec::new(alloc),
-        spans: Vec::new(alloc),
+        // (most file patches have one hunk)
+        items: Vec::with_capacity(alloc, 1)?,
+        spans: Vec::with_capacity(alloc, 1)?,
     };
     let end = walk(&mut whole, alloc, text, at, line)?;
     Ok(Hunks {

@@ -11,3 +11,4 @@ pub mod InBytes
 mod Skipping
 mod BareHeaders
 pub mod Roomy
+mod Refusing

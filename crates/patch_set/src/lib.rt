@@ -10,6 +10,7 @@ mod marks;
 mod names;
 mod reading;
 mod refusals;
+mod reserving;
 mod set;
 mod skipped;
 
@@ -24,5 +25,6 @@ pub use marks::are_asked;
 pub use names::{NamedPatches, bytes_in};
 pub use read_file_patch::{Change, FilePatch, Target};
 pub use reading::{give_targets, read_set, whole_text};
+pub use reserving::refuse;
 pub use set::{Parts, PatchSet, Row, take_apart, untried};
 pub use skipped::BinaryChange;

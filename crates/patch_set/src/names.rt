@@ -132,7 +132,7 @@ fn target(
 }
 
 /// The names that a file patch with this header can be meant for: the file operand, or its own.
-fn names_of(
+pub fn names_of(
     alloc: Global,
     text: &[u8],
     options: &Options,

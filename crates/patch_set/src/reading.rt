@@ -113,7 +113,7 @@ pub fn give_targets(
     }
 }
 
-/// The same, where the names alone are looked at.
+/// Gives the file patches their targets, where the names alone are looked at.
 fn give_lasting(
     alloc: Global,
     text: &[u8],
