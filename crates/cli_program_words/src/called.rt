@@ -54,12 +54,12 @@ pub fn tool_of(words: &[String]) -> &'static str {
     tool_called(word_at(words, 0))
 }
 
-/// The same of the first word.
+/// The tool for a message by the first word.
 pub fn tool_called(first: &str) -> &'static str {
     tool_named(first).unwrap_or(KIT)
 }
 
-/// The same where the words can't be had.
+/// The tool for a message where the words can't be had.
 pub fn called_tool<R: Env>(rt: &R) -> &'static str {
     match tool_at(rt, 0) {
         Some(tool) => tool,

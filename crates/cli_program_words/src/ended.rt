@@ -7,7 +7,7 @@ use crate::line_ends::put_line_ends;
 use crate::lines::{Filler, Lines};
 use crate::modes::{Taking, put_modes};
 use crate::nuls::put_nuls;
-use crate::ranges::put_ranges;
+use crate::ranges::{put_any_range, put_ranges};
 use crate::skipped::{put_skipped, put_stack_skipped};
 use crate::state::text_at;
 use cli_run_answers::Why;
@@ -20,6 +20,12 @@ use sys_devices::{Disk, LineEnds, OutputNotes, Passed};
 
 /// No patch of a stack is longer.
 const LARGEST_PATCH: u32 = u32::MAX;
+
+/// How a patch of a stack is taken.
+const PUSHED: Taking = Taking {
+    strip: Some(1),
+    is_reversed: false,
+};
 
 /// What a run came to, what it said, and how the lines of its files end.
 #[derive(Clone, Copy)]
@@ -73,6 +79,7 @@ fn put_of_patch<R: Files>(
         strip: options.strip,
         is_reversed: options.reverse,
     };
+    let ways = ways_of(options);
     match ended.why {
         Why::Done => {
             put_read(lines, options, passed);
@@ -80,11 +87,10 @@ fn put_of_patch<R: Files>(
         }
         Why::Rejected => {
             put_read(lines, options, passed);
-            put_taken(lines, "patch", taking, passed);
+            put_taken(lines, "patch", ways, taking, passed);
         }
         Why::Garbage => {
-            put_unlike(lines, "patch", passed.front());
-            put_ranges(lines, "patch", passed.front());
+            put_garbage(lines, "patch", passed);
             put_modes(lines, "patch", taking, passed);
             put_nuls(lines, "patch", options, passed.front());
         }
@@ -106,17 +112,24 @@ fn put_read(lines: &mut Lines, options: &Options, passed: &Passed) {
 }
 
 /// What is said of the lines of a text.
-fn put_taken(lines: &mut Lines, tool: &str, taking: Taking, passed: &Passed) {
-    put_ranges(lines, tool, passed.front());
+fn put_taken(lines: &mut Lines, tool: &str, ways: ReadOptions, taking: Taking, passed: &Passed) {
+    put_ranges(lines, tool, ways, passed.front());
     put_modes(lines, tool, taking, passed);
+}
+
+/// Why a text has no file patch: a damaged range, or else an indent that isn't the same in each line.
+fn put_garbage(lines: &mut Lines, tool: &str, passed: &Passed) {
+    if !put_any_range(lines, tool, passed.front()) {
+        put_unlike(lines, tool, passed.front());
+    }
 }
 
 fn put_of_stack<R: Files>(lines: &mut Lines, rt: &R, ended: Ended<'_>, passed: &Passed) {
     match ended.why {
         Why::Done => put_pushed(lines, passed),
         Why::Garbage => {
-            put_unlike(lines, "patchstack", passed.front());
-            put_pushed(lines, passed);
+            put_garbage(lines, "patchstack", passed);
+            put_modes(lines, "patchstack", PUSHED, passed);
         }
         Why::Rejected => {
             put_pushed(lines, passed);
@@ -129,20 +142,16 @@ fn put_of_stack<R: Files>(lines: &mut Lines, rt: &R, ended: Ended<'_>, passed: &
 
 /// What is said of a patch of a stack, which is taken as with `-p1`. Where it pops none goes by.
 fn put_pushed(lines: &mut Lines, passed: &Passed) {
-    let taking = Taking {
-        strip: Some(1),
-        is_reversed: false,
-    };
     let ways = ReadOptions {
         only: None,
         git: true,
         skip_binary: false,
     };
     put_indented(lines, "patchstack", ways, passed.front());
-    put_taken(lines, "patchstack", taking, passed);
+    put_taken(lines, "patchstack", ways, PUSHED, passed);
 }
 
-/// The same of the patches that the commands of a stack before the last one took, each with the name of its file behind it.
+/// What is said of the patches that the commands of a stack before the last one took, each with the name of its file behind it.
 pub fn put_before<R: Files<File = File>>(lines: &mut Lines, tree: &mut Disk<'_, R>) {
     let mut names = String::new(lines.alloc);
     if names.push_str(tree.taken_before()).is_err() {

@@ -63,7 +63,7 @@ pub fn told(alloc: Global, words: &[String]) -> Result<Option<HelpRequest>, Allo
     }
 }
 
-/// The same of the words of a tool.
+/// What the words of a tool ask to be told.
 fn told_by(alloc: Global, tool: &str, words: &[String]) -> Result<Option<HelpRequest>, AllocError>
     ensures { IfOk result (λ telling. is_some telling ≡ asks tool.now (whole_words (table_by tool.now) (map string_bytes words.now))) }
 {
@@ -73,7 +73,7 @@ fn told_by(alloc: Global, tool: &str, words: &[String]) -> Result<Option<HelpReq
     }
 }
 
-/// The same of words whose long names are whole.
+/// What words of a tool ask to be told, with whole long names.
 fn told_in(tool: &str, words: &[String]) -> Option<HelpRequest>
     ensures { is_some result ≡ asks tool.now (map string_bytes words.now) }
 {

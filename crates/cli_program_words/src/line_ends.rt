@@ -100,7 +100,7 @@ fn with_line(shown: Shown, line: &[u8], keeps_returns: bool) -> Shown {
     shown
 }
 
-/// The same where the last line has its line feed.
+/// What is shown, where the last line has its line feed.
 fn with_last(shown: Shown) -> Shown {
     let mut shown = shown;
     match shown.last {

@@ -230,7 +230,6 @@ fn behind<'a>(line: &'a [u8], mark: &[u8], other: &[u8]) -> Option<&'a [u8]> {
     line.strip_prefix(mark).or(line.strip_prefix(other))
 }
 
-/// The names as they are written.
 fn written_names(alloc: Global, given: Given<'_>) -> Lines {
     let mut text = Lines::new(alloc);
     add_given(&mut text, given.old);
@@ -245,7 +244,7 @@ fn add_given(text: &mut Lines, name: Option<&[u8]>) {
     }
 }
 
-/// The same, as they are told.
+/// The names that are left of a file patch, as they are told.
 fn left_names(alloc: Global, given: Given<'_>, reading: Reading) -> Lines {
     let mut text = Lines::new(alloc);
     match looked_for(alloc, given, reading) {

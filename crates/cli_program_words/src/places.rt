@@ -76,7 +76,7 @@ fn syncs_of(sync: SyncKind) -> Syncs {
     }
 }
 
-/// The same by the words of a tool beside `patch`. The filters but `splitdiff` write no files.
+/// Whether a tool beside `patch` syncs files and directories. The filters but `splitdiff` write no files.
 fn syncs_of_tool(alloc: Global, words: &[String]) -> Syncs {
     match read_tool_words(alloc, words) {
         Ok(job) => {

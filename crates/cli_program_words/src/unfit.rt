@@ -48,7 +48,7 @@ pub fn missing_words(lines: &mut Lines, words: &[String]) -> Option<usize> {
     None
 }
 
-/// The same, where this value goes on with them, and then operands.
+/// How many words are missing behind these, where this value goes on with them, and then operands.
 fn missing_behind(lines: &mut Lines, words: &[String], value: &str) -> Option<usize> {
     let mut tried = copied(lines, words);
     if !value.is_empty() {

@@ -7,7 +7,6 @@ use Rattle.std.proofs.lemmas.List.{append-nil, drop_all, length-map, map-append,
 use Rattle.std.proofs.lemmas.Option.{same_Some}
 use Rattle.line_list.specs.declared.Span.{Span}
 use Rattle.hunk_core.specs.Pieces.{AreInTurn}
-use Rattle.outside.specs.Files.{is_temp}
 use Rattle.outside.specs.Names.{is_slash, broken_rule, normal_form, last_component}
 use Rattle.read_file_patch.specs.Stripped.{shortened}
 use Rattle.outside.specs.declared.name.NameRule.{NameRule}
@@ -18,7 +17,7 @@ use Rattle.split_recount.specs.Parts.{row_of, rows_of}
 use Rattle.split_recount.specs.Splitting.{AreNames}
 use Rattle.split_recount.proofs.Cutting.{row-at}
 use Rattle.cli_tool_words.specs.PlainJobs.{PlainSplitJob}
-use Rattle.filter_whole_text.specs.PartNames.{part_name, numbered_names, flat, is_usable, stem, first_name, stem_at, is_mark, ends_in_mark, mark, needs_mark, within, base, own_base, own_name, own_names, is_by_name, part_names}
+use Rattle.filter_whole_text.specs.PartNames.{part_name, numbered_names, flat, is_unfit, is_usable, stem, first_name, stem_at, is_mark, ends_in_mark, mark, needs_mark, within, base, own_base, own_name, own_names, is_by_name, part_names}
 
 -- what stands at a place, and behind it
 next-suc : {A : Type 0} (xs : List A) (i : ℕ) (x : A) → slice_get xs i ≡ Some x → drop i xs ≡ x ∷ drop (suc i) xs
@@ -33,23 +32,23 @@ next-at {A} xs i x is =
 
 -- ---- one name
 
-usable-test : (text : List ℕ) (b : Bool) → bytes_eq (normal_form text) text ≡ b → broken_rule text ≡ None → is_usable text ≡ (b && not (is_temp text))
+usable-test : (text : List ℕ) (b : Bool) → bytes_eq (normal_form text) text ≡ b → broken_rule text ≡ None → is_usable text ≡ (b && not (is_unfit text))
 usable-test text b same whole =
-    ap (λ (r : Option NameRule). is_none r && bytes_eq (normal_form text) text && not (is_temp text)) whole
-    ∙ ap (λ (x : Bool). true && x && not (is_temp text)) same
+    ap (λ (r : Option NameRule). is_none r && bytes_eq (normal_form text) text && not (is_unfit text)) whole
+    ∙ ap (λ (x : Bool). true && x && not (is_unfit text)) same
 
 usable-by : (text : List ℕ) (b : Bool) → bytes_eq (normal_form text) text ≡ b → broken_rule text ≡ None
-    → (if b && not (is_temp (normal_form text)) then Some (normal_form text) else None) ≡ (if is_usable text then Some text else None)
+    → (if b && not (is_unfit (normal_form text)) then Some (normal_form text) else None) ≡ (if is_usable text then Some text else None)
 usable-by text true same whole =
-    ap (λ (l : List ℕ). if not (is_temp l) then Some l else None) (are-same (normal_form text) text same)
+    ap (λ (l : List ℕ). if not (is_unfit l) then Some l else None) (are-same (normal_form text) text same)
     ∙ ap (λ (b : Bool). if b then Some text else None) (sym (usable-test text true same whole))
 usable-by text false same whole = ap (λ (b : Bool). if b then Some text else None) (sym (usable-test text false same whole))
 
 -- a text that breaks no rule
 pub usable-is : (text : List ℕ) → broken_rule text ≡ None
-    → (if bytes_eq (normal_form text) text && not (is_temp (normal_form text)) then Some (normal_form text) else None) ≡ (if is_usable text then Some text else None)
+    → (if bytes_eq (normal_form text) text && not (is_unfit (normal_form text)) then Some (normal_form text) else None) ≡ (if is_usable text then Some text else None)
 usable-is text whole =
-    ap (λ (b : Bool). if b && not (is_temp (normal_form text)) then Some (normal_form text) else None) refl
+    ap (λ (b : Bool). if b && not (is_unfit (normal_form text)) then Some (normal_form text) else None) refl
     ∙ usable-by text (bytes_eq (normal_form text) text) refl whole
 
 pub broken-is : (text : List ℕ) (rule : NameRule) → broken_rule text ≡ Some rule → (◌≡◌ {A = Option (List ℕ)} None (if is_usable text then Some text else None))

@@ -3,7 +3,7 @@ use Rattle.std.proofs.Common.{◌≡◌, ℕ, zero, suc, ◌+◌, ◌-◌, ◌<�
 use Rattle.std.proofs.lemmas.List.{get_or-append-add, get_or-drop, append-nil, length-map}
 use Rattle.std.proofs.lemmas.List.FromFn.{length-map-range_with_len}
 use Rattle.std.proofs.lemmas.Bool.{false≢true}
-use Rattle.std.specs.Prelude.{is_none}
+use Rattle.std.specs.Prelude.{is_none, nat_lt}
 use Rattle.std.specs.List.{list_any, range_with_len, ends_with}
 use Rattle.std.specs.Fmt.{decimal as written, format_spec, styled_decimal, padded_integral, char_count}
 use Rattle.std.specs.Cmp.Lexicographic.{same_text}
@@ -16,7 +16,7 @@ use Rattle.outside.proofs.Components.{components_slash, components_some}
 use Rattle.line_list.specs.declared.Span.{Span}
 use Rattle.read_file_patch.specs.Stripped.{shortened}
 use Rattle.cli_tool_words.specs.PlainJobs.{PlainSplitJob}
-use Rattle.filter_whole_text.specs.PartNames.{three_digits, part_name, numbered_names, flat, is_usable, stem, first_name, stem_at, mark, needs_mark, ending, within, base, own_base, own_name, own_names, is_by_name, part_names}
+use Rattle.filter_whole_text.specs.PartNames.{three_digits, part_name, numbered_names, flat, is_unfit, is_usable, stem, first_name, stem_at, mark, needs_mark, ending, within, base, own_base, own_name, own_names, is_by_name, part_names}
 
 -- ---- digits
 
@@ -160,6 +160,10 @@ third true true true is = absurd cc
 third true false c is = absurd cc
 third false b c is = absurd cc
 
+first-false : (a b : Bool) → (a || b) ≡ false → a ≡ false
+first-false true b is = absurd cc
+first-false false b is = refl
+
 unnamed-lasting : is_temp (codes "unnamed") ≡ false
 unfolding is_temp
 unnamed-lasting = refl
@@ -169,7 +173,7 @@ unfolding stem
 stem-lasting strip name =
     let text = flat (shortened strip name) in
     elim (is_usable text) as (λ b. is_usable text ≡ b → is_temp (if b then text else codes "unnamed") ≡ false) [
-      | true ↦ λ is. third (is_none (broken_rule text)) (bytes_eq (normal_form text) text) (is_temp text) is
+      | true ↦ λ is. first-false (is_temp text) (nat_lt 200 (length text)) (third (is_none (broken_rule text)) (bytes_eq (normal_form text) text) (is_unfit text) is)
       | false ↦ λ is. unnamed-lasting
     ] refl
 

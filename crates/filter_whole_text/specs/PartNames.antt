@@ -2,7 +2,7 @@
 -- a part has the name of its first file patch, each slash of it a low line, and `.patch` behind it; -E leaves `.patch` out, and -D puts the
 -- same names into a directory. A name that an earlier part has gets `.part` and the number of the part behind it, and so does that of the
 -- file itself.
-use Rattle.std.specs.Prelude.{ℕ, ◌-◌, ◌+◌, List, [], ◌∷◌, ◌++◌, codes, length, drop, map, replicate, Bool, true, false, not, ◌&&◌, ◌||◌, if◌then◌else◌, nat_eq, nat_le, bytes_eq, is_none, is_some, Option, None, Some}
+use Rattle.std.specs.Prelude.{ℕ, ◌-◌, ◌+◌, List, [], ◌∷◌, ◌++◌, codes, length, drop, map, replicate, Bool, true, false, not, ◌&&◌, ◌||◌, if◌then◌else◌, nat_eq, nat_le, nat_lt, bytes_eq, is_none, is_some, Option, None, Some}
 use Rattle.std.specs.List.{list_all, range_with_len, starts_with}
 use Rattle.line_list.specs.declared.Span.{Span}
 use Rattle.num_text.specs.Numbers.{decimal, is_digit}
@@ -32,9 +32,13 @@ numbered_names file count = map (part_name file) (range_with_len 1 count)
 abbrev pub flat : List ℕ → List ℕ
 flat name = map (λ b. if is_slash b then 95 else b) name
 
--- a patch may give it as it stands as the name of a file, and it is no temporary's
+-- it is a temporary's, or has more than 200 bytes: a system takes 255, of which numbers and the ending want some
+abbrev pub is_unfit : List ℕ → Bool
+is_unfit text = is_temp text || nat_lt 200 (length text)
+
+-- a patch may give it as it stands as the name of a file, and it isn't unfit for a part's
 abbrev pub is_usable : List ℕ → Bool
-is_usable text = is_none (broken_rule text) && bytes_eq (normal_form text) text && not (is_temp text)
+is_usable text = is_none (broken_rule text) && bytes_eq (normal_form text) text && not (is_unfit text)
 
 -- what stands for a name that is stripped: it, or `unnamed` where it can't be a file's
 unfoldable pub stem : ℕ → List ℕ → List ℕ

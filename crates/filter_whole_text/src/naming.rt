@@ -3,12 +3,11 @@ ghost use Rattle.std.specs.Prelude.{◌≡◌, ℕ, ◌≤◌, List, ◌++◌, [
 ghost use Rattle.std.specs.List.{list_all};
 ghost use Rattle.num_text.specs.Numbers.{is_digit};
 ghost use Rattle.hunk_core.specs.Pieces.{AreInTurn};
-ghost use Rattle.outside.specs.Files.{is_temp};
 ghost use Rattle.outside.specs.Names.{is_slash, last_component};
 ghost use Rattle.cli_tool_words.specs.PlainJobs.{plain_part_names, plain_split_job};
 ghost use Rattle.split_recount.specs.Parts.{rows_of};
 ghost use Rattle.split_recount.specs.Splitting.{AreNames};
-ghost use Rattle.filter_whole_text.specs.PartNames.{part_name, numbered_names, flat, is_usable, stem, first_name, stem_at, is_mark, ends_in_mark, mark, ending, base, own_base, own_name, own_names, is_by_name, needs_mark, part_names};
+ghost use Rattle.filter_whole_text.specs.PartNames.{part_name, numbered_names, flat, is_unfit, is_usable, stem, first_name, stem_at, is_mark, ends_in_mark, mark, ending, base, own_base, own_name, own_names, is_by_name, needs_mark, part_names};
 
 use cli_tool_words::{PartNames, SplitJob};
 use line_list::Span;
@@ -17,6 +16,9 @@ use patch_set::PatchSet;
 use read_file_patch::{last_component, shortened};
 use std::alloc::{AllocError, Global};
 use std::collections::BTreeSet;
+
+/// The longest name of a file patch that a part may have, in bytes.
+const LONGEST: usize = 200;
 
 /// The names of the parts, in their order.
 pub fn part_names(
@@ -148,9 +150,9 @@ fn usable(alloc: Global, text: &[u8]) -> Result<Option<Name>, AllocError>
     }
 }
 
-/// The name, if it is this text and no temporary's.
+/// The name, if it is this text and not unfit.
 fn same_name(name: Name, text: &[u8]) -> Option<Name>
-    ensures { result ≡ (if bytes_eq name text.now && not (is_temp name) then Some name else None) }
+    ensures { result ≡ (if bytes_eq name text.now && not (is_unfit name) then Some name else None) }
 {
     if is_same(&name, text) {
         return Some(name);
@@ -160,9 +162,16 @@ fn same_name(name: Name, text: &[u8]) -> Option<Name>
 }
 
 fn is_same(name: &Name, text: &[u8]) -> bool
-    ensures { result ≡ (bytes_eq name.now text.now && not (is_temp name.now)) }
+    ensures { result ≡ (bytes_eq name.now text.now && not (is_unfit name.now)) }
 {
-    name.text().as_bytes() == text && !name.is_temp()
+    name.text().as_bytes() == text && !is_unfit(name)
+}
+
+/// Whether it is a temporary's, or too long for what may follow it.
+fn is_unfit(name: &Name) -> bool
+    ensures { result ≡ is_unfit name.now }
+{
+    name.is_temp() || name.text().as_bytes().len() > LONGEST
 }
 
 fn unnamed(alloc: Global) -> Result<Name, AllocError>
@@ -249,7 +258,7 @@ fn own_name(
     }
 }
 
-/// The same in no directory.
+/// The name of a part where it lies in no directory.
 fn own_base(
     alloc: Global,
     file: &Name,

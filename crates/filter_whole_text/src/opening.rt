@@ -86,7 +86,7 @@ pub fn open_text<T: Tree, I: Source>(
     Ok(set)
 }
 
-/// The same without their hunks, for a filter that wants no more than a list.
+/// The file patches that a filter reads without their hunks, where it wants no more than a list.
 pub fn open_outline<T: Tree, I: Source>(
     alloc: Global,
     input: &Input,
@@ -107,7 +107,7 @@ pub fn open_outline<T: Tree, I: Source>(
     }
 }
 
-/// The same without their hunks, for a filter that leaves file patches and hunks out.
+/// The file patches that a filter reads without their hunks, where it leaves file patches and hunks out.
 pub fn open_digest<T: Tree, I: Source>(
     alloc: Global,
     input: &Input,

@@ -1,16 +1,14 @@
 -- The line that tells that carriage returns were taken off a patch text (GNU patch manual, `--binary`).
-use Rattle.std.specs.Prelude.{ℕ, Bool, not, ◌&&◌, ◌==◌, List, [], codes, if◌then◌else◌}
-use Rattle.std.specs.List.{list_any}
-use Rattle.line_list.specs.Completed.{completed}
+use Rattle.std.specs.Prelude.{ℕ, Bool, not, ◌&&◌, List, [], codes, if◌then◌else◌}
 use Rattle.patch_options.specs.PlainJob.{PlainOptions}
-use Rattle.read_clean_text.specs.Reading.{clean_of}
+use Rattle.patch_set.specs.Asked.{ways_of}
+use Rattle.read_clean_text.specs.Cleaned.{tells_stripping}
+use Rattle.read_clean_text.specs.Indents.{unindented}
 
-abbrev pub has_return : List ℕ → Bool
-has_return text = list_any (λ b. b == 13) text
-
--- the text came with carriage returns of which none is left, and those of hunks aren't to be kept
+-- the text has a file patch with hunks of whose header the last line has a carriage return, and those of hunks aren't to be kept. The text in
+-- the order in which it is carried out has the same file patches at other places, so the given one is looked at
 abbrev pub strips_returns : PlainOptions → List ℕ → Bool
-strips_returns o bytes = not o.keep_returns && (has_return bytes && not (has_return (completed (clean_of o bytes))))
+strips_returns o bytes = not o.keep_returns && tells_stripping (ways_of o) (unindented (ways_of o) bytes)
 
 abbrev pub stripping_line : List ℕ
 stripping_line = codes "(Stripping trailing CRs from patch; use --binary to disable.)\n"

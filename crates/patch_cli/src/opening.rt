@@ -18,13 +18,13 @@ ghost use Rattle.patch_cli.specs.Opening.{IsAsked, StopsEarly};
 ghost use Rattle.apply_backup_numbers.specs.Numbering.{asks_numbers};
 ghost use Rattle.patch_cli.specs.Numbered.{IsMade};
 
-use crate::returns::{has_return, strips_returns};
+use crate::returns::strips_returns;
 use apply_backup_numbers::{NumberFault, asks_numbers, number_backups};
 use cli_run_answers::{Why, read_input, settle};
 use outside::{Source, Tree};
 use patch_options::{Job, Options, read_words};
 use patch_set::PatchSet;
-use read_clean_text::read_clean;
+use read_clean_text::read_telling;
 use std::alloc::Global;
 
 /// The options, and the file patches that are to be carried out with them.
@@ -107,9 +107,9 @@ fn read_patches<T: Tree, I: Source>(
     ensures refused { IfErr result (λ why. (a : ScratchView) (c : SinkView) → StopsEarly why (Ok (patch (plain_options options.now))) (world (T.view tree.old) a (I.view source.old) c) (world (T.view tree.new) a (I.view source.new) c)) }
 {
     let text = read_input(alloc, &options.input, options.dir.as_ref(), tree, source)?;
-    let had = has_return(&text);
-    let set = read_clean(alloc, text, options)?;
-    *strips = strips_returns(options, had, &set);
+    let mut told = false;
+    let set = read_telling(alloc, text, options, &mut told)?;
+    *strips = strips_returns(options, told);
     number_if(alloc, options, set, tree)
 }
 

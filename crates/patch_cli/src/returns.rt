@@ -3,11 +3,10 @@
 ghost use Rattle.std.specs.Prelude.{◌≡◌, ◌&&◌, not, true, false, OnErr};
 ghost use Rattle.outside.specs.SinkView.{Writes};
 ghost use Rattle.patch_options.specs.PlainJob.{plain_options};
-ghost use Rattle.patch_cli.specs.Returns.{has_return, first_said, says_stripping};
+ghost use Rattle.patch_cli.specs.Returns.{first_said, says_stripping};
 
 use outside::{Failed, Sink, put_all};
 use patch_options::Options;
-use patch_set::PatchSet;
 
 /// The line, as GNU patch writes it.
 const LINE: &[u8] = b"(Stripping trailing CRs from patch; use --binary to disable.)\n";
@@ -25,16 +24,9 @@ pub fn say_stripping<O: Sink>(options: &Options, strips: bool, out: &mut O) -> R
     put_all(out, LINE)
 }
 
-/// Whether a text that had carriage returns or not was read as a set without any, and those of hunks aren't to be kept.
-pub fn strips_returns(options: &Options, had: bool, set: &PatchSet) -> bool
-    ensures { result ≡ (not options.now.keep_returns && (had && not (has_return set.now.text))) }
+/// Whether carriage returns are taken off, where it is known that the text has a file patch that tells of them.
+pub fn strips_returns(options: &Options, told: bool) -> bool
+    ensures { result ≡ (not options.now.keep_returns && told) }
 {
-    !options.keep_returns && had && !has_return(set.text())
-}
-
-/// Whether a text has a carriage return.
-pub fn has_return(text: &[u8]) -> bool
-    ensures { result ≡ has_return text.now }
-{
-    text.contains(&b'\r')
+    !options.keep_returns && told
 }

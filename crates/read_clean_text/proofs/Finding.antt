@@ -1,6 +1,7 @@
 -- The file patch in which a place stands.
-use Rattle.std.proofs.Common.{◌≡◌, ℕ, zero, suc, ◌+◌, ◌<◌, ◌≤◌, cond, List, [], ◌∷◌, length, map, drop, get_or, Some, refl, sym, ap, ◌∙◌, arith}
+use Rattle.std.proofs.Common.{◌≡◌, ℕ, zero, suc, ◌+◌, ◌<◌, ◌≤◌, Bool, ◌||◌, cond, List, [], ◌∷◌, length, map, drop, get_or, Some, refl, sym, ap, ◌∙◌, arith}
 use Rattle.std.specs.Prelude.{option_map}
+use Rattle.std.specs.List.{list_any}
 use Rattle.std.proofs.lemmas.Bool.{le-ltb, lt-ltb}
 use Rattle.std.proofs.lemmas.List.{drop_all, length-map}
 use Rattle.std.proofs.lemmas.Option.{slice_get-map, slice_get-get_or, slice_get_past}
@@ -8,6 +9,10 @@ use Rattle.read_file_patch.specs.declared.FilePatch.{FilePatch}
 use Rattle.read_patch_text.specs.Regions.{Region, region_of}
 use Rattle.read_clean_text.specs.Cleaned.{region_at}
 use Rattle.read_clean_text.specs.Cleaning.{IsFoundFrom}
+
+pub any-map : {A B : Type 0} (test : B → Bool) (f : A → B) (xs : List A) → list_any (λ x. test (f x)) xs ≡ list_any test (map f xs)
+any-map test f [] = refl
+any-map test f (x ∷ xs) = ap (λ b. test (f x) || b) (any-map test f xs)
 
 from-suc : (ps : List FilePatch) (k : ℕ) (p : FilePatch) → k < length ps → p ≡ get_or ps k p → drop k (map region_of ps) ≡ region_of p ∷ drop (suc k) (map region_of ps)
 from-suc [] k p lt is = absurd (omega (arith, lt))

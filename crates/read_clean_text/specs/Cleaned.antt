@@ -26,6 +26,10 @@ telling_line Ed opening = opening - 1
 abbrev pub comes_with_returns : List Bool → Header → Bool
 comes_with_returns returns h = unwrap_or (slice_get returns (telling_line h.form h.opening)) false
 
+-- the header tells of carriage returns that were taken off: it has hunks, and comes with returns
+abbrev pub tells_returns : List Bool → Header → Bool
+tells_returns returns h = not h.bare && comes_with_returns returns h
+
 -- a line at a place stands in front of the hunks of a file patch, or in a bare git header
 abbrev pub is_in_front : Header → ℕ → Bool
 is_in_front h at = h.bare || nat_lt at h.at
@@ -80,6 +84,23 @@ is_clean text = nat_lt 268435456 (length text) || not (list_any (λ b. b == 13) 
 -- the text that is read in these ways, where carriage returns are to be kept or not
 unfoldable pub cleaned : ReadOptions → Bool → List ℕ → List ℕ
 cleaned ways keeps text = if is_clean text then text else cleaned_in ways keeps text (completed (bare_text text))
+
+-- one of the file patches has hunks and comes with returns
+unfoldable pub one_tells : List Bool → List Region → Bool
+one_tells returns regions = list_any (λ r. tells_returns returns r.header) regions
+
+-- the same of a text that has no fault
+abbrev pub tells_by : List ℕ → Result (List PlainPatch) Fault → List Region → Bool
+tells_by text (Ok ps) regions = one_tells (returns_of text) regions
+tells_by text (Err f) regions = false
+
+-- by the completed bare text, which is read in these ways
+abbrev pub tells_in : ReadOptions → List ℕ → List ℕ → Bool
+tells_in ways text whole = tells_by text (patches_of ways whole) (regions_of ways whole)
+
+-- a run that doesn't keep the carriage returns of this text, which it reads in these ways, says that they are taken off
+unfoldable pub tells_stripping : ReadOptions → List ℕ → Bool
+tells_stripping ways text = if is_clean text then false else tells_in ways text (completed (bare_text text))
 
 -- these lines are those, one for one, some of them without their returns
 abbrev pub IsLineForLine : List (List ℕ) → List (List ℕ) → Type 0

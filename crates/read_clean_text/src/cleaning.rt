@@ -6,10 +6,10 @@ ghost use Rattle.line_list.specs.Lines.{lines};
 ghost use Rattle.line_list.specs.Completed.{completed};
 ghost use Rattle.read_patch_text.specs.Regions.{region_of};
 ghost use Rattle.read_clean_text.specs.Bare.{bare_text};
-ghost use Rattle.read_clean_text.specs.Cleaned.{cleaned, cleaned_in, cleaned_lines, is_clean};
+ghost use Rattle.read_clean_text.specs.Cleaned.{cleaned, cleaned_in, cleaned_lines, is_clean, tells_in, tells_stripping};
 
 use crate::bare::{bare_length, bare_of, put_line};
-use crate::losing::{loses_at, patch_at};
+use crate::losing::{loses_at, one_tells, patch_at};
 use hunk_core::FormFault;
 use line_list::next_line;
 use patch_header::ReadOptions;
@@ -79,23 +79,50 @@ fn clean_returns(
     text: &[u8],
     ways: ReadOptions,
     keeps: bool,
+    told: &mut bool,
 ) -> Result<Vec<u8>, SetFault>
     requires { length text.now ≤ 268_435_456 }
     ensures is { IfOk result (λ new. new.items ≡ cleaned_in ways keeps text.now (completed (bare_text text.now))) }
+    ensures told { IfOk result (λ new. told.new ≡ tells_in ways text.now (completed (bare_text text.now))) }
     ensures memory { IfErr result (λ fault. fault ≡ SetFault.Memory) }
 {
     let (bare, returns) = bare_of(alloc, text)?;
     let whole = whole_text(bare)?;
     match read_patches(alloc, &whole, ways) {
-        Ok(patches) => Ok(clean_lines(alloc, text, &patches, &returns, keeps)?),
-        Err(FormFault::Malformed { .. }) => Ok(without_any(alloc, text)?),
+        Ok(patches) => {
+            *told = one_tells(&patches, &returns);
+            Ok(clean_lines(alloc, text, &patches, &returns, keeps)?)
+        }
+        Err(FormFault::Malformed { .. }) => {
+            *told = false;
+            Ok(without_any(alloc, text)?)
+        }
         Err(FormFault::Memory) => Err(SetFault::Memory),
     }
 }
 
-/// The text that is read in these ways, of which lines of hunks keep their carriage returns where that is asked for. A text without any is
-/// handed on as it is.
-#[tactic(auto, unfolding(crate::specs::Cleaned::cleaned))]
+/// The text that is read in these ways, of which lines of hunks keep their carriage returns where that is asked for; and whether a run that
+/// keeps none says so. A text without any is handed on as it is.
+#[tactic(auto, unfolding(crate::specs::Cleaned::cleaned, crate::specs::Cleaned::tells_stripping))]
+pub fn clean_telling(
+    alloc: Global,
+    text: Vec<u8>,
+    ways: ReadOptions,
+    keeps_returns: bool,
+    told: &mut bool,
+) -> Result<Vec<u8>, SetFault>
+    ensures is { IfOk result (λ new. new.items ≡ cleaned ways keeps_returns text.items) }
+    ensures told { IfOk result (λ new. told.new ≡ tells_stripping ways text.items) }
+    ensures memory { IfErr result (λ fault. fault ≡ SetFault.Memory) }
+{
+    if is_clean(&text) {
+        *told = false;
+        return Ok(text);
+    }
+    clean_returns(alloc, &text, ways, keeps_returns, told)
+}
+
+/// The same text alone.
 pub fn clean(
     alloc: Global,
     text: Vec<u8>,
@@ -105,8 +132,6 @@ pub fn clean(
     ensures is { IfOk result (λ new. new.items ≡ cleaned ways keeps_returns text.items) }
     ensures memory { IfErr result (λ fault. fault ≡ SetFault.Memory) }
 {
-    if is_clean(&text) {
-        return Ok(text);
-    }
-    clean_returns(alloc, &text, ways, keeps_returns)
+    let mut told = false;
+    clean_telling(alloc, text, ways, keeps_returns, &mut told)
 }

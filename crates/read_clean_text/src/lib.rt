@@ -12,4 +12,4 @@ mod reading;
 pub use cleaning::clean;
 pub use indents::{loses_indent, unindented};
 pub use laws::{cleaned_line_for_line, unindented_line_for_line};
-pub use reading::read_clean;
+pub use reading::{read_clean, read_telling};

@@ -2,7 +2,7 @@
 
 ghost use Rattle.std.specs.Prelude.{◌≡◌, ◌≤◌, length, map, slice_get};
 ghost use Rattle.read_patch_text.specs.Regions.{region_of};
-ghost use Rattle.read_clean_text.specs.Cleaned.{comes_with_returns, is_in_front, is_of_file, is_own, loses, loses_in, telling_line};
+ghost use Rattle.read_clean_text.specs.Cleaned.{comes_with_returns, is_in_front, is_of_file, is_own, loses, loses_in, one_tells, telling_line, tells_returns};
 ghost use Rattle.read_clean_text.specs.Cleaning.{IsFoundFrom};
 
 use hunk_core::Form;
@@ -23,6 +23,21 @@ fn comes_with_returns(returns: &[bool], header: &Header) -> bool
 {
     let index = telling_line(header.form, header.opening) as usize;
     returns.get(index).copied().unwrap_or(false)
+}
+
+fn tells_returns(returns: &[bool], header: &Header) -> bool
+    ensures { result ≡ tells_returns returns.now header.now }
+{
+    !header.bare && comes_with_returns(returns, header)
+}
+
+/// Whether one of the file patches has hunks and comes with carriage returns.
+pub fn one_tells(patches: &[FilePatch], returns: &[bool]) -> bool
+    ensures { result ≡ one_tells returns.now (map region_of patches.now) }
+{
+    patches
+        .iter()
+        .any(|patch| tells_returns(returns, &patch.header))
 }
 
 fn is_in_front(header: &Header, at: usize) -> bool

@@ -244,7 +244,7 @@ fn begun<'a, R: Files<File = File>>(
     if free.1.is_err() {
         return free;
     }
-    let rejects = found_output(files, &places.rejects, false);
+    let rejects = found_rejects(files, &places.rejects);
     if rejects.1.is_err() {
         return rejects;
     }
@@ -275,6 +275,16 @@ fn found_output<'a, R: Files<File = File>>(
 ) -> (&'a str, io::Result<()>) {
     match name {
         Some(name) => (name.text(), files.find_output(Path::of(name), is_standard)),
+        None => (".", Ok(())),
+    }
+}
+
+fn found_rejects<'a, R: Files<File = File>>(
+    files: &mut OpenFiles<'_, R>,
+    name: &'a Option<Name>,
+) -> (&'a str, io::Result<()>) {
+    match name {
+        Some(name) => (name.text(), files.find_rejects(Path::of(name))),
         None => (".", Ok(())),
     }
 }

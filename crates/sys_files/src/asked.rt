@@ -1,7 +1,7 @@
 //! Whether a run can begin in the directory that the words give, and which of their files are written through.
 
 use crate::files::OpenFiles;
-use crate::found::found_behind;
+use crate::found::{found_behind, found_itself};
 use crate::paths::{Path, no_file, not_a_directory, or_out_of_reach};
 use std::fs::File;
 use std::io;
@@ -38,5 +38,14 @@ impl<'r, R: Files<File = File>> OpenFiles<'r, R> {
             self.outlets.note(name.text, is_standard)?;
         }
         Ok(())
+    }
+
+    /// The same of the reject file, but for a pipe that has the name itself: to open one waits for a reader, which may never come, in
+    /// the middle of the run. A link to one, as `/dev/fd/3`, mostly leads to one that is open.
+    pub fn find_rejects(&mut self, name: Path<'_>) -> io::Result<()> {
+        match found_itself(self.rt, name.text) {
+            Ok(found) if found.is_pipe => Ok(()),
+            _ => self.find_output(name, false),
+        }
     }
 }

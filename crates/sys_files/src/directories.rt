@@ -4,9 +4,9 @@
 //! A name in a directory that is held open is reached as `/proc/self/fd/N/name`, wherever the directory is by then. Where there is
 //! no `/proc`, or a directory may be searched and not read, the names on the way are looked at again each time.
 
-use crate::found::{Found, Identity, found_at_path, found_behind, told};
+use crate::found::{Found, Identity, found_at_path, found_behind, found_itself, told};
 use crate::held::AllHeld;
-use crate::paths::{PERMISSION_DENIED, Path, not_a_directory, too_long};
+use crate::paths::{PERMISSION_DENIED, Path, leads_nowhere, not_a_directory, too_long};
 use crate::rights::Rights;
 use crate::spots::{LocatedName, WalkedPath, is_too_many, passed, put_front, unsynced};
 use crate::text::{LONGEST_PATH, Text};
@@ -101,7 +101,7 @@ impl Directories {
         }))
     }
 
-    /// The same, or the error where the way goes through anything but directories.
+    /// The way to a name, or the error where it goes through anything but directories.
     pub fn open_way<'a, R: Files<File = File>>(
         &mut self,
         rt: &R,
@@ -161,7 +161,7 @@ impl Directories {
         let mut seen = found_at_path(rt, self.path.as_str(), is_given)?;
         if !seen.is_there && makes_way {
             self.will_change_at(rt, spot)?;
-            fs::create_dir(rt, self.path.as_str())?;
+            make_directory(rt, self.path.as_str())?;
             seen = found_at_path(rt, self.path.as_str(), is_given)?;
         }
         if seen.is_directory {
@@ -358,5 +358,16 @@ impl Directories {
                 held.usual = Some(rights);
             }
         }
+    }
+}
+
+/// Makes a directory where nothing was found behind the path. Where that is a link, the system only says that it exists.
+fn make_directory<R: Files>(rt: &R, path: &str) -> io::Result<()> {
+    match fs::create_dir(rt, path) {
+        Ok(()) => Ok(()),
+        Err(error) => match found_itself(rt, path) {
+            Ok(found) if found.is_link => Err(leads_nowhere()),
+            _ => Err(error),
+        },
     }
 }

@@ -120,7 +120,7 @@ impl<'r, R: Files<File = File>> OpenFiles<'r, R> {
         self.size_of(name, self.kind.is_patch())
     }
 
-    /// The same, where no file alone has one, or `all` have.
+    /// The size of what stands at a name, where no file alone has one, or `all` have.
     fn size_of(&mut self, name: Path<'_>, all: bool) -> io::Result<Option<u64>> {
         if let Some(length) = self.pipes.length(name.text) {
             return Ok(Some(length));
@@ -142,6 +142,10 @@ impl<'r, R: Files<File = File>> OpenFiles<'r, R> {
             return Ok(Some(found.size()));
         }
         if self.saves.is_own(name.text) && found.is_in_the_way() {
+            return Err(no_way(found));
+        }
+        if found.is_closed && self.kind.is_stack() {
+            // (a pop would end as if the file were gone)
             return Err(no_way(found));
         }
         self.missing.note(name);

@@ -3,7 +3,7 @@
 use crate::rights::Rights;
 use std::fs::Metadata;
 use std::io::ErrorKind;
-use std::os::unix::fs::MetadataExt;
+use std::os::unix::fs::{FileTypeExt, MetadataExt};
 use std::rt::Files;
 use std::{fs, io};
 
@@ -33,6 +33,7 @@ pub struct Found {
     pub is_file: bool,
     pub is_directory: bool,
     pub is_link: bool,
+    pub is_pipe: bool,
     /// Nothing is there, since something on the way is no directory.
     pub is_cut_off: bool,
     /// What is there isn't told, since it can't be reached.
@@ -52,6 +53,7 @@ impl Found {
         is_file: false,
         is_directory: false,
         is_link: false,
+        is_pipe: false,
         is_cut_off: false,
         is_closed: false,
         identity: Identity::HERE,
@@ -135,6 +137,7 @@ pub fn told(answer: io::Result<Metadata>) -> io::Result<Found> {
             is_file: found.is_file(),
             is_directory: found.is_dir(),
             is_link: found.is_symlink(),
+            is_pipe: found.file_type().is_fifo(),
             is_cut_off: false,
             is_closed: false,
             identity: Identity {

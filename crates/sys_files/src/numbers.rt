@@ -32,7 +32,7 @@ impl Directories {
     }
 }
 
-/// The same among names of which each has a zero behind it.
+/// The greatest number of a backup among names of which each has a zero behind it.
 fn last_in<D: Read + Drop>(names: D, name: &[u8]) -> io::Result<u64> {
     let mut names = names;
     let mut read = [0; ROOM];

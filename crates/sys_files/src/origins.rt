@@ -72,7 +72,7 @@ impl Grant {
         }
     }
 
-    /// The same for a file that is filled from one with these rights.
+    /// What is due for a file that is filled from one with these rights.
     pub fn filled_from(self, rights: Rights) -> Grant {
         match self.most {
             Some(_) => Grant::as_old(rights),
@@ -80,7 +80,7 @@ impl Grant {
         }
     }
 
-    /// The same whatever a patch says.
+    /// These rights, whatever a patch says.
     pub fn settled(self) -> Grant {
         Grant {
             rights: self.rights,
@@ -118,7 +118,7 @@ pub fn usual(origin: Option<Origin>, old: Found) -> Due {
     }
 }
 
-/// The same as what stands there has, if anything does.
+/// The rights that what stands there has, if anything does.
 pub fn own(old: Found) -> Due {
     if old.is_file {
         Due::Exactly(old.rights)

@@ -12,6 +12,8 @@ pub const PERMISSION_DENIED: i32 = 13;
 
 const CUT_OFF: &str = "what is on the way to it is no directory (a symbolic link isn't followed)";
 
+const NOWHERE: &str = "a symbolic link on the way to it leads nowhere";
+
 /// A name, or a directory that it goes through.
 #[derive(Clone, Copy)]
 pub struct Path<'a> {
@@ -68,8 +70,8 @@ impl<'a> Path<'a> {
 }
 
 /// What was found, or nothing where the error says that it can't be reached: a name longer than the system takes, or one behind
-/// a directory that can't be searched. So a candidate costs its file patch and not the run. For the stack's own files it is a
-/// fault: else a stack would look as if nothing of it were applied.
+/// a directory that can't be searched. So a candidate costs its file patch and not the run. For a stack's commands it is a
+/// fault: else a stack would look as if nothing of it were applied, or a file as if it were taken away.
 pub fn or_out_of_reach(found: io::Result<Found>) -> io::Result<Found> {
     match found {
         Ok(found) => Ok(found),
@@ -118,6 +120,11 @@ pub fn no_file() -> io::Error {
 /// The answer where this stands in place of what is meant.
 pub fn not_a_file(found: Found) -> io::Error {
     io::Error::new(ErrorKind::AlreadyExists, found.kind())
+}
+
+/// The answer where a directory is to be made at the name of a link that leads nowhere.
+pub fn leads_nowhere() -> io::Error {
+    io::Error::new(ErrorKind::NotADirectory, NOWHERE)
 }
 
 /// The answer where something on the way is no directory.

@@ -50,7 +50,7 @@ impl Rights {
         }
     }
 
-    /// The same where nobody may execute the file.
+    /// These rights, but that nobody may execute the file.
     pub fn inert(self) -> Rights {
         Rights {
             owner: self.owner,
@@ -59,7 +59,7 @@ impl Rights {
         }
     }
 
-    /// The same where those may execute it who may read it, as far as `most` lets them.
+    /// These rights, but that those may execute the file who may read it, as far as `most` lets them.
     pub fn executable(self, most: Rights) -> Rights {
         let readers = (self.bits / 4) & EXECUTE_BITS;
         Rights {

@@ -4,7 +4,7 @@ use Rattle.outside.specs.Calls.{untouched_both}
 use Rattle.patch_options.specs.PlainJob.{plain_options}
 use Rattle.patch_options.specs.PlainJob.PlainJob.{patch}
 use Rattle.cli_run_answers.specs.Input.{IsAnswer}
-use Rattle.patch_cli.specs.Returns.{has_return, strips_returns}
+use Rattle.patch_cli.specs.Returns.{strips_returns}
 use Rattle.patch_cli.proofs.Asked.{asked_if, numbers_stop, on_ok_so, standard_is}
 use Rattle.patch_cli.proofs.opening.read_patches.Goals as goal
 
@@ -16,9 +16,7 @@ returns-clause-asked g c =
     let s = g.I.Source.view c.args.source.now in
     let text = c.in_ok-text.text.items in
     let answer : IsAnswer (Ok text) o.input o.dir t s = subst (λ (dir : Option (List ℕ)). IsAnswer (Ok text) o.input dir t s) c.as_ref.ensures.value c.in_ok-text.ensures.text in
-    let stripped : c.strips_returns.result ≡ strips_returns o text = c.strips_returns.ensures
-    ∙ ap (λ (had : Bool). not o.keep_returns && (had && not (has_return c.in_ok-set.set.text))) (c.has_return-had.ensures ∙ ap (λ (old : List ℕ). has_return old) c.deref.ensures.value)
-    ∙ ap (λ (new : List ℕ). not o.keep_returns && (has_return text && not (has_return new))) c.in_ok-set.ensures.read.text in
+    let stripped : c.strips_returns.result ≡ strips_returns o text = c.strips_returns.ensures ∙ ap (λ (told : Bool). not o.keep_returns && told) c.in_ok-set.ensures.told in
     asked_if o text c.in_ok-set.set t x s c.requires answer c.in_ok-set.ensures.read c.in_ok-set.ensures.fresh c.in_ok-set.ensures.refused c.strips_returns.result stripped c.read_input.ensures.untouched.told c.number_if.result c.number_if.ensures.made
 
 pub returns-clause-untouched : goal.returns-clause-untouched
