@@ -38,7 +38,7 @@ module _ (form : Form) (j : PlainFilterJob) where
   -- ---- what was read decides what comes
 
   module _ (x : Result (List ℕ × PlainSelect) InputFault) where
-    by-read : (s : PlainSelect) (v : SetView) → IsReadOf IsSet v s x → converted_by form j x ≡ unless_unfit (form_refusal form (left_patches (filter_with j s) (plain_patches v))) (converted form (filter_with j s) v)
+    pub by-read : (s : PlainSelect) (v : SetView) → IsReadOf IsSet v s x → converted_by form j x ≡ unless_unfit (form_refusal form (left_patches (filter_with j s) (plain_patches v))) (converted form (filter_with j s) v)
     by-read s v h = rw (h.is, h.free)
         (ap (λ (r : Option ConvertFault). unless_unfit r (converted_in form (filter_with j s) h.text)) (sym (form-by form (filter_with j s) h.text v h.read))
         ∙ ap (unless_unfit (form_refusal form (left_patches (filter_with j s) (plain_patches v)))) (sym (converted-by form (filter_with j s) h.text v h.read)))

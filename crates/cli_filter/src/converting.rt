@@ -1,12 +1,16 @@
 //! `filterdiff` with a form: the file patches that it means, written anew in that form.
-ghost use Rattle.std.specs.Prelude.{◌≡◌, None, Ok, IfSome};
-ghost use Rattle.cli_tool_words.specs.PlainJobs.{plain_filter_job};
+ghost use Rattle.std.specs.Prelude.{◌≡◌, ℕ, List, None, Ok, IfSome};
+ghost use Rattle.hunk_core.specs.declared.Form.{Form};
+ghost use Rattle.cli_tool_words.specs.PlainJobs.{PlainFilterJob, PlainSelect, plain_filter_job};
 ghost use Rattle.cli_run_answers.specs.Input.{IsFile};
-ghost use Rattle.patch_set.specs.SetView.{plain_patches};
+ghost use Rattle.patch_set.specs.Refusals.{refusal as set_refusal};
+ghost use Rattle.patch_set.specs.SetView.{SetView, IsRead, plain_patches};
 ghost use Rattle.format_convert.specs.Taken.{left_patches};
 ghost use Rattle.format_convert.specs.Converted.{Converts, converted};
 ghost use Rattle.format_convert.specs.Refusals.{refusal};
-ghost use Rattle.cli_filter.specs.Converting.{Forms, convert_outcome, of_converted};
+ghost use Rattle.filter_whole_text.specs.Texts.{defaults};
+ghost use Rattle.cli_filter.specs.Outcomes.{filter_with};
+ghost use Rattle.cli_filter.specs.Converting.{Forms, convert_outcome, converted_by, of_converted, unless_unfit};
 
 use crate::form_fault::FormFault;
 use cli_tool_words::FilterJob;
@@ -41,6 +45,13 @@ pub fn run_convert<T: Tree, I: Source, O: Sink>(
         Err(fault) => Err(FormFault::Filter(fault)),
     }
 }
+
+/// What comes of a text that `patch` takes without options is what comes of the set that is read from it, for each form, job and
+/// selection. So what is said of a set in another form holds of it.
+pub fn texts_convert_as_sets()
+    ensures { (form : Form) (j : PlainFilterJob) (s : PlainSelect) (text : List ℕ) (v : SetView) → set_refusal (defaults s.skip_binary) text ≡ None → IsRead (defaults s.skip_binary) text v
+        → converted_by form j (Ok (text, s)) ≡ unless_unfit (refusal form (left_patches (filter_with j s) (plain_patches v))) (converted form (filter_with j s) v) }
+{}
 
 /// Writes the file patches that are meant in the form, where there are some.
 fn put_converted<O: Sink>(

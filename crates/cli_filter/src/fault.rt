@@ -20,7 +20,7 @@ pub fn why_of(fault: FilterFault) -> Why
     }
 }
 
-/// The same of a filter that may have come to its end.
+/// The answer of a filter that may have come to its end.
 pub fn answer(ended: Result<(), FilterFault>) -> Why
     ensures { result ≡ why_by ended }
 {
@@ -30,7 +30,7 @@ pub fn answer(ended: Result<(), FilterFault>) -> Why
     }
 }
 
-/// The same of `filterdiff` with a form.
+/// The answer of `filterdiff` with a form.
 pub fn form_answer(ended: Result<(), FormFault>) -> Why
     ensures { result ≡ why_formed ended }
 {

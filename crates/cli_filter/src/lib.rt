@@ -12,6 +12,7 @@ mod styling;
 mod tools;
 mod turns;
 
+pub use converting::texts_convert_as_sets;
 pub use form_fault::FormFault;
 pub use sifting::digests_are_filtered_as_sets;
 pub use turns::run_filters;

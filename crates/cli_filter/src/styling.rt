@@ -41,7 +41,7 @@ pub fn run_styled<T: Tree, I: Source, O: Sink>(
     answer
 }
 
-/// The same over a job that is lent.
+/// A command without a form, over a job that is lent.
 fn filter_so<T: Tree, I: Source, O: Sink>(
     alloc: Global,
     job: &mut FilterJob,
@@ -59,7 +59,7 @@ fn filter_so<T: Tree, I: Source, O: Sink>(
     filter_untold(alloc, job, tree, source, out)
 }
 
-/// The same where something is told of hunks, or all text is written.
+/// A command without a form where something is told of hunks, or all text is written.
 fn filter_told<T: Tree, I: Source, O: Sink>(
     alloc: Global,
     job: &mut FilterJob,
@@ -112,7 +112,7 @@ fn put_told_set<O: Sink>(
     }
 }
 
-/// The same where neither is asked for.
+/// A command without a form where neither is asked for.
 fn filter_untold<T: Tree, I: Source, O: Sink>(
     alloc: Global,
     job: &mut FilterJob,
@@ -130,7 +130,7 @@ fn filter_untold<T: Tree, I: Source, O: Sink>(
     filter_restyled(alloc, job, tree, source, out)
 }
 
-/// The same by a text in memory.
+/// A command without a form, by a text in memory.
 fn filter_restyled<T: Tree, I: Source, O: Sink>(
     alloc: Global,
     job: &mut FilterJob,
@@ -171,7 +171,7 @@ pub fn convert_styled<T: Tree, I: Source, O: Sink>(
     answer
 }
 
-/// The same over a job that is lent.
+/// A command with a form, over a job that is lent.
 fn convert_so<T: Tree, I: Source, O: Sink>(
     alloc: Global,
     job: &mut FilterJob,
@@ -190,7 +190,7 @@ fn convert_so<T: Tree, I: Source, O: Sink>(
     convert_restyled(alloc, job, form, tree, source, out)
 }
 
-/// The same by a text in memory.
+/// A command with a form, by a text in memory.
 fn convert_restyled<T: Tree, I: Source, O: Sink>(
     alloc: Global,
     job: &mut FilterJob,

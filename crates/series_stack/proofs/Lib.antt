@@ -23,3 +23,4 @@ pub mod Answering
 pub mod Standing
 pub mod TakingBack
 pub mod Counting
+pub mod Refusing

@@ -35,7 +35,7 @@ module _ (g : Files) (s : Stack) (n : ℕ) (stack : stack_of g ≡ Ok s) (le : n
   pub lowered_stack : stack_of (after (lowering n) g) ≡ Ok (with_count s n)
   lowered_stack = stack-put g s n stack le
 
-  lowered_ready : IsReady (after (lowering n) g) (with_count s n)
+  pub lowered_ready : IsReady (after (lowering n) g) (with_count s n)
   lowered_ready = record {
     stack = lowered_stack;
     next = ap is_bad (count_apart g n (suc n)) ∙ not_bad (get g (save_name (suc n))) saved;
@@ -45,7 +45,7 @@ module _ (g : Files) (s : Stack) (n : ℕ) (stack : stack_of g ≡ Ok s) (le : n
   lowered_recovery : Recovery (after (lowering n) g) (with_count s n)
   lowered_recovery = recovery (after (lowering n) g) (with_count s n) lowered_ready
 
-  lowered_effects : recovering (after (lowering n) g) ≡ undoing (suc n) (after (lowering n) g)
+  pub lowered_effects : recovering (after (lowering n) g) ≡ undoing (suc n) (after (lowering n) g)
   lowered_effects = recovering-is (after (lowering n) g) (Ok (with_count s n)) lowered_stack
 
   pub pop_end : after_all (pop_effects n g) g ≡ recover (after (lowering n) g)

@@ -24,7 +24,7 @@ use Rattle.series_stack.proofs.Popping.{pop_end, pop_stack, pop_between}
 use Rattle.series_stack.proofs.Stopping.{Stops, stops_on_way, stops_between, way_behind, between_behind}
 use Rattle.series_stack.proofs.Answering.{command-cases, behind_end}
 
-stacks_apart : (f z : Files) (s : Stack) (n : ℕ) → stack_of f ≡ Ok s → stack_of z ≡ Ok (with_count s n) → (s.applied ≡ n → ⊥) → stack_of z ≡ stack_of f → ⊥
+pub stacks_apart : (f z : Files) (s : Stack) (n : ℕ) → stack_of f ≡ Ok s → stack_of z ≡ Ok (with_count s n) → (s.applied ≡ n → ⊥) → stack_of z ≡ stack_of f → ⊥
 stacks_apart f z s n before after apart same =
     let both : ◌≡◌ {A = Result Stack Refusal} (Ok (with_count s n)) (Ok s) = sym after ∙ same ∙ before in
     let equal : with_count s n ≡ s = cc in
@@ -93,22 +93,22 @@ failed_push read f lawful = command-cases (λ o. IsFailedPush o.answer → SameL
 
 -- ---- pops
 module _ (read : Reader) (f : Files) (s : Stack) (w : Work) (stack : stack_of f ≡ Ok s) (work : work_of read Pop f s ≡ Ok w) where
-  popped : IsPop f s w
+  pub popped : IsPop f s w
   popped = work-pop read f s w work
 
-  before_pop : Recovery f s
+  pub before_pop : Recovery f s
   before_pop = recovery f s (work-ready read Pop f s w stack work)
 
-  one_more : suc popped.before ≡ suc s.applied → ⊥
+  pub one_more : suc popped.before ≡ suc s.applied → ⊥
   one_more same = omega (arith, same, popped.applied)
 
-  fewer : popped.before ≤ length s.patches
+  pub fewer : popped.before ≤ length s.patches
   fewer = omega (arith, (stack-read f s stack).most, popped.applied)
 
-  pop_saved : is_some (saved_in (get (recover f) (save_name (suc popped.before)))) ≡ true
+  pub pop_saved : is_some (saved_in (get (recover f) (save_name (suc popped.before)))) ≡ true
   pop_saved = ap (λ (o : Option (List ℕ)). is_some (saved_in o)) (before_pop.saves (suc popped.before) one_more) ∙ popped.saved
 
-  none_behind : get (recover f) (save_name (suc (suc popped.before))) ≡ None
+  pub none_behind : get (recover f) (save_name (suc (suc popped.before))) ≡ None
   none_behind = subst (λ (n : ℕ). get (recover f) (save_name (suc n)) ≡ None) popped.applied before_pop.clean.next
 
   pop_work_stops : Stops f (recovering f ++ (work_outcome w s (recover f)).effects)

@@ -1,9 +1,10 @@
 -- What a stack of patches promises.
-use Rattle.std.specs.Prelude.{◌≡◌, suc, ◌⊎◌, ◌-◌, [], ◌∷◌}
-use Rattle.outside.specs.Files.{Files, SameLasting}
+use Rattle.std.specs.Prelude.{◌≡◌, suc, ◌⊎◌, ◌-◌, List, ℕ, [], ◌∷◌, false, Option, None, Some}
+use Rattle.std.specs.List.{AllByRecursion}
+use Rattle.outside.specs.Files.{Files, SameLasting, is_temp}
 use Rattle.outside.specs.Quiet.{after_all}
 use Rattle.series_stack.specs.Undoing.{SameBeside}
-use Rattle.series_stack.specs.Stack.{Stack, count_name, stack_of, recover}
+use Rattle.series_stack.specs.Stack.{Stack, count_name, patch_name, stack_of, recover}
 use Rattle.series_stack.specs.Commands.{Reader, StackOp}
 use Rattle.series_stack.specs.Commands.Ending.{Done, Rejected, CutOff}
 use Rattle.series_stack.specs.Commands.StackOp.{Push, Pop, Applied}
@@ -33,6 +34,22 @@ pub record Recovers (before after left : Files) : Type 0 where
   pub counts : (stack_of left ≡ stack_of before) ⊎ (stack_of left ≡ stack_of after)
   pub early : stack_of left ≡ stack_of before → SameLasting (recover before) (recover left)
   pub late : stack_of left ≡ stack_of after → SameLasting (recover after) (recover left)
+
+-- why a command does nothing but undo what an interrupted one did: it is refused, or a file is too long to be saved
+abbrev pub refusal_in : Answer → Option Answer
+refusal_in (Refused e) = Some (Refused e)
+refusal_in (TooLong size) = Some (TooLong size)
+refusal_in (Ended ending) = None
+
+-- no text of these patches has a name of a temporary
+abbrev pub HaveLastingTexts : List (List ℕ) → Type 0
+HaveLastingTexts names = AllByRecursion (λ name. is_temp (patch_name name) ≡ false) names
+
+-- a command over what is left is refused where it would be over the files before, or over those after, as the count says; and
+-- with the same answer
+pub record RefusesAs (read : Reader) (op : StackOp) (before after left : Files) : Type 0 where
+  pub early : stack_of left ≡ stack_of before → refusal_in (command read op left).answer ≡ refusal_in (command read op before).answer
+  pub late : stack_of left ≡ stack_of after → refusal_in (command read op left).answer ≡ refusal_in (command read op after).answer
 
 -- the stack after a command that is done
 abbrev pub stack_after : StackOp → Stack → Stack

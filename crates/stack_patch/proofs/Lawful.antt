@@ -4,6 +4,7 @@ use Rattle.patch_options.specs.PlainJob.{IsLawful}
 use Rattle.series_stack.proofs.Answering.{refused_nothing}
 use Rattle.series_stack.proofs.Standing.{failed_push, stopped_command}
 use Rattle.series_stack.proofs.Counting.{counted_after}
+use Rattle.series_stack.proofs.Refusing.{next_refused}
 use Rattle.series_stack.proofs.TakingBack.{taken_back}
 use Rattle.stack_patch.specs.Reading.{push_options, read_patch}
 use Rattle.stack_patch.specs.Keeping.{KeepsItsStack}
@@ -20,4 +21,5 @@ keeps = record {
   failed = λ f fails. failed_push read_patch f reads fails;
   refused = λ op f e is. refused_nothing read_patch op f e is;
   stopped = λ op f left k same. stopped_command read_patch reads op f k left same;
+  next = λ op other f left k same lasting. next_refused read_patch reads op other f k left same lasting;
 }

@@ -131,7 +131,7 @@ headers_named strip o = each_named _ (then_named (header_candidate strip) (heade
 index_named : (strip : Option ℕ) (o : Option (List ℕ)) → Each IsPatchName (index_names strip o)
 index_named strip o = each_named _ (then_named (candidate strip) (candidate_named strip) o)
 
-candidates_named : (strip : Option ℕ) (old new index : Option (List ℕ)) (posix : Bool) → Each IsPatchName (candidates strip old new index posix)
+pub candidates_named : (strip : Option ℕ) (old new index : Option (List ℕ)) (posix : Bool) → Each IsPatchName (candidates strip old new index posix)
 candidates_named strip old new index posix =
     each_both IsPatchName (header_names strip old ++ header_names strip new) (index_names strip (index_beside posix old new index))
     (each_both IsPatchName (header_names strip old) (header_names strip new) (headers_named strip old) (headers_named strip new))
@@ -145,7 +145,7 @@ two_named (Some x) (Some y) p q = elim (bytes_eq x y) as (λ t. Each IsPatchName
   | false ↦ (p, (q, tt))
 ]
 
-moved_named : (strip : Option ℕ) (from to : Option (List ℕ)) → Each IsPatchName (moved_names strip from to)
+pub moved_named : (strip : Option ℕ) (from to : Option (List ℕ)) → Each IsPatchName (moved_names strip from to)
 moved_named strip from to =
     two_named (moved_name strip from) (moved_name strip to)
     (then_named (candidate (moved_strip strip)) (candidate_named (moved_strip strip)) from)

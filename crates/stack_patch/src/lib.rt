@@ -18,7 +18,7 @@ mod laws;
 mod names;
 
 use cli_run_answers::{InputFault, read_file};
-pub use laws::{names_of_a_run, patches_of_a_stack};
+pub use laws::{names_given_to_a_run, names_of_a_run, patches_of_a_stack};
 pub use names::{Saved, saved_names};
 use outside::{Name, Tree};
 use patch_options::{BackupNumbers, FileTimes, Input, Options, PlanKind, ReadOnlyFiles, SyncKind};
