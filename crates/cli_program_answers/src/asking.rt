@@ -32,7 +32,7 @@ pub fn answer<X: Runner>(rt: &HostRuntime, runner: &X, words: &io::Result<Vec<St
     status
 }
 
-/// The same, where each standard stream is open or stands for one that is closed.
+/// Answers the exit status, where each standard stream is open or stands for one that is closed.
 fn answer_in_place<X: Runner>(rt: &HostRuntime, runner: &X, words: &io::Result<Vec<String>>) -> u8
     ensures ends { IfOk words.now (λ words. Ends (X.Runs ⟦<Disk<'static, HostRuntime> as Tree>⟧.view ⟦<Pages<'static, HostRuntime> as Scratch>⟧.view ⟦<Input<Stdin> as Source>⟧.view ⟦<Output<Says> as Sink>⟧.view) (map string_bytes words.items) result) }
     ensures refused { IfErr words.now (λ _. result ≡ 2) }

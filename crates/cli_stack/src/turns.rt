@@ -68,7 +68,7 @@ fn run_all<T: Tree, C: Scratch, O: Sink>(
     }
 }
 
-/// The same behind a command that was carried out.
+/// Goes on to the end of the stack behind a command that was carried out.
 fn run_more<T: Tree, C: Scratch, O: Sink>(
     alloc: Global,
     op: StackOp,

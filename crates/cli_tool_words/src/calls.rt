@@ -20,7 +20,7 @@ pub fn calls_of(alloc: Global, words: &[String]) -> Result<Vec<Vec<String>>, All
     }
 }
 
-/// The same of words that name the tool that they ask for.
+/// The calls of words that name the tool that they ask for.
 #[tactic(auto, unfolding(crate::specs::Calls::calls_in))]
 fn calls_in(alloc: Global, words: &[String]) -> Result<Vec<Vec<String>>, AllocError>
     ensures { IfOk result (λ calls. map (λ c. map string_bytes c.items) calls.items ≡ calls_in (map string_bytes words.now)) }
@@ -58,7 +58,7 @@ fn calls_by(alloc: Global, tool: Tool, words: &[String]) -> Result<Vec<Vec<Strin
     }
 }
 
-/// The same by the words with whole long names.
+/// The calls of words with whole long names.
 fn calls_whole(
     alloc: Global,
     tool: Tool,
@@ -73,7 +73,7 @@ fn calls_whole(
     }
 }
 
-/// The same by the words behind the tool's name.
+/// The calls, by the words behind the tool's name.
 fn calls_behind(
     alloc: Global,
     tool: Tool,

@@ -10,7 +10,7 @@ use std::alloc::{AllocError, Global};
 /// The words that each tool has.
 const BEHIND: &str = "  --help, --version           this text, or the version\n";
 
-/// The same of the tools that can be each other.
+/// The words that each of the tools has that can be each other.
 const BEHIND_SIEVE: &str = concat!(
     "  --list, --filter, --grep    be lsdiff, filterdiff or grepdiff\n",
     "  --help, --version           this text, or the version\n"

@@ -48,7 +48,7 @@ pub struct Shown {
     pub prefix: Vec<u8>,
     /// What stands in front of the line of a file patch: the name of its text, if that is shown.
     pub label: Vec<u8>,
-    /// The same in front of the line of a hunk.
+    /// What stands in front of the line of a hunk.
     pub hunk_label: Vec<u8>,
 }
 
@@ -71,7 +71,7 @@ pub struct Style {
     pub prefix: Option<Vec<u8>>,
     /// What is put in front of the old name, on the `diff` line too; in the header lines only where there is no `prefix`.
     pub old_prefix: Vec<u8>,
-    /// The same of the new name.
+    /// What is put in front of the new name, in the same lines.
     pub new_prefix: Vec<u8>,
     /// The header lines end behind their names.
     pub no_stamps: bool,

@@ -139,7 +139,7 @@ fn wants_value(table: &[Group], word: &str) -> bool
     }
 }
 
-/// The same by what stands behind its hyphen.
+/// Whether an option wants the next word as its value, by what stands behind its hyphen.
 fn wants_behind(table: &[Group], rest: &str) -> bool
     ensures { result ≡ wants_behind (plain_table table.now) rest.now (strip_byte 45 rest.now) }
 {

@@ -158,7 +158,7 @@ fn gives_file(table: &[Group], word: &str) -> bool
     }
 }
 
-/// The same by what stands behind its hyphen.
+/// Whether an option gives a file of patterns, by what stands behind its hyphen.
 fn gives_file_behind(table: &[Group], rest: &str) -> bool
     ensures { result ≡ gives_file_behind (plain_table table.now) rest.now (strip_byte 45 rest.now) }
 {

@@ -94,7 +94,7 @@ fn put_line<O: Sink>(
     put_all(out, NO_NEWLINE)
 }
 
-/// The same where the line is in the part that is written, else nothing.
+/// A line behind its mark where it is in the part that is written, else nothing.
 fn put_if<O: Sink>(
     out: &mut O,
     text: &[u8],
@@ -137,7 +137,7 @@ fn is_mixed(hunk: &Hunk, from: usize) -> bool
     stretch_has(hunk, from, Side::Forward) && stretch_has(hunk, from, Side::Reversed)
 }
 
-/// The same for the stretch that goes on behind a line with this mark, or begins there.
+/// Whether the stretch that goes on behind a line with this mark, or begins there, has both dropped and added lines.
 fn is_mixed_behind(hunk: &Hunk, mark: Mark, from: usize, changed: bool) -> bool
     requires { from ≤ vec_len hunk.now.body }
     ensures { (text : List ℕ) → result ≡ mixed_behind changed mark (body_of text (drop from hunk.now.body.items)) }

@@ -44,7 +44,7 @@ fn is_last(mark: &[u8], rest: &[u8]) -> bool
     }
 }
 
-/// The same of the line that ends at a place.
+/// Whether the line that ends at a place begins so.
 fn begins_last(mark: &[u8], rest: &[u8], end: usize) -> bool
     requires { IsLineAt rest.now 0 end }
     ensures { result ≡ is_last mark.now (lines rest.now) }

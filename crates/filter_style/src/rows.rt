@@ -9,12 +9,12 @@ const TEXT: &str =
     "mail\ndiff -u --git a/x/y b/x/y\nindex 1..2\n--- a/x/y\t2020\n+++ b/x/y\t2021\n@@ -1,2 +1,2 @@ fn\n c\n--- a/q\n+++ b/q\n\
     Index: z\n*** /dev/null\n--- \"b/z\"\n***************\n*** 0 ****\n--- 1 ----\n+ d\n";
 
-/// The same without all text, and with other names.
+/// What is written of `TEXT` without all text, and with other names.
 const CLEAN: &str =
     "diff -u --git x/y x/y\nindex 1..2\n--- P/x/y\n+++ P/x/y\n@@ -1,2 +1,2 @@\n c\n--- a/q\n+++ b/q\n\
     *** /dev/null\n--- \"P/z\"\n***************\n*** 0 ****\n--- 1 ----\n+ d\n";
 
-/// The same with prefixes for each side, and last components.
+/// What is written of `TEXT` with prefixes for each side, and last components.
 const SIDES: &str =
     "mail\ndiff -u --git o/y n/y\nindex 1..2\n--- o/y\t2020\n+++ n/y\t2021\n@@ -1,2 +1,2 @@ fn\n c\n--- a/q\n+++ b/q\n\
     Index: z\n*** /dev/null\n--- \"n/z\"\n***************\n*** 0 ****\n--- 1 ----\n+ d\n";

@@ -172,7 +172,7 @@ fn is_large_normal(net: Net, block: Block) -> bool
         || is_over(range_start(new_first(net, block), block.adds), block.adds)
 }
 
-/// The same of a command of an ed script.
+/// Whether a command of an ed script would have too large a number.
 fn is_large_ed(block: Block) -> bool
     requires first { block.first ≤ 2 ^ 60 }
     requires drops { block.drops ≤ 2 ^ 60 }

@@ -30,7 +30,7 @@ pub fn choose_among<T: Tree>(
     choose_from(patch, operand, posix, tree)
 }
 
-/// The same, without what follows of the tree.
+/// Chooses where the file isn't renamed or copied, without what follows of the tree.
 #[tactic(auto, unfolding(crate::specs::Choice::choice_among))]
 fn choose_from<T: Tree>(
     patch: &FilePatch,

@@ -87,7 +87,7 @@ fn put_line<O: Sink>(out: &mut O, text: &[u8], span: Span, side: Side) -> Result
     put_all(out, NO_NEWLINE)
 }
 
-/// The same where the line is on the side that is written, else nothing.
+/// A line behind the mark of this side where it is on that side, else nothing.
 fn put_if<O: Sink>(
     out: &mut O,
     text: &[u8],

@@ -146,7 +146,7 @@ impl<C: Scratch> LineStore for PackedB<C> {
         )
     }
 
-    /// The same, in groups of lines of a page.
+    /// Page by page, in groups of lines of each.
     fn last_alike(
         &mut self,
         from: u64,

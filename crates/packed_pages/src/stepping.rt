@@ -90,7 +90,7 @@ fn reach_from(page: &[u8], place: &RecordPlace, k: u64) -> Option<usize>
     None
 }
 
-/// The same for a place that may be none.
+/// Where line `k` stands, if it is the line of a place, which may be none, or the one behind it on the same page.
 fn reach_in(page: &[u8], held: &Option<RecordPlace>, k: u64) -> Option<usize>
     requires small { length page.now ≤ 2 ^ 20 }
     requires whole { (p : RecordPlace) → held.now ≡ Some p → IsWhole page.now p }

@@ -206,7 +206,7 @@ fn put_told_if(
     put_told_if_taken(alloc, set, job, patch, row, out)
 }
 
-/// The same of a file patch, counted from 0.
+/// Adds what is written of a file patch with this number, counted from 0.
 fn put_told_at(
     alloc: Global,
     set: &PatchSet,

@@ -134,7 +134,7 @@ fn put_hit_lines<F: Finder, O: Sink>(
     Ok(())
 }
 
-/// The same, where the lines of hunks are asked for.
+/// Writes the lines of the hunks that have a hit, where they are asked for.
 fn put_lines_if_asked<F: Finder, O: Sink>(
     alloc: Global,
     text: &[u8],
@@ -184,7 +184,7 @@ fn put_found<F: Finder, O: Sink>(
     }
 }
 
-/// The same, with its hunks told or numbered, where that is asked for.
+/// Writes what is asked for of a file patch with a hit, its hunks told or numbered where that is asked for.
 fn put_asked<F: Finder, O: Sink>(
     alloc: Global,
     set: &PatchSet,

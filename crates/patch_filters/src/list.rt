@@ -172,7 +172,7 @@ pub fn put_name_line<O: Sink>(
     put_own_line(shown, number, patch, name, out)
 }
 
-/// The same without the name of its text.
+/// Writes the line of a file patch without the name of its text.
 fn put_own_line<O: Sink>(
     shown: &Shown,
     number: Option<u64>,

@@ -134,7 +134,7 @@ fn left_out(is_kept: bool, so_far: u64, count: u32) -> u64
     }
 }
 
-/// The same behind one more hunk.
+/// What was passed, with one more hunk.
 fn passed_by(is_kept: bool, passed: Passed, hunk: &Hunk) -> Passed
     requires few { length hunk.now.body.items < 2 ^ 32 }
     requires gone { passed.gone < 2 ^ 63 }

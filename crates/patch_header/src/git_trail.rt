@@ -83,7 +83,7 @@ pub fn trail_passed(trail: GitTrail, number: u64, text: &[u8], at: usize, end: u
     }
 }
 
-/// The same, where git headers are read.
+/// The trail with this line, where git headers are read.
 pub fn trail_behind(
     git: bool,
     trail: GitTrail,

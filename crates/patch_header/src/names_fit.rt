@@ -27,7 +27,7 @@ fn behind<'a>(mark: &[u8], line: &'a [u8]) -> &'a [u8]
     }
 }
 
-/// The same behind its blanks.
+/// What stands in a line behind these bytes and the blanks that follow them.
 fn unblanked<'a>(mark: &[u8], line: &'a [u8]) -> &'a [u8]
     ensures { result.now ≡ unblanked (behind mark.now line.now) }
 {

@@ -145,7 +145,7 @@ impl<C: Scratch> LineStore for PlanB<C> {
         )
     }
 
-    /// The same from the end.
+    /// Page by page, from the end.
     fn last_alike(
         &mut self,
         from: u64,

@@ -50,7 +50,7 @@ pub struct FilePatch {
     /// Whether its old side is no file: it is named `/dev/null`, or a git header says that the file is
     /// new, or it is empty with the stamp of the epoch.
     pub old_absent: bool,
-    /// The same of its new side; there the git header says that the file is deleted.
+    /// Whether its new side is no file, by the same rules; there the git header says that the file is deleted.
     pub new_absent: bool,
     /// The files that it can be meant for. Of a rename or a copy these are two, or none.
     pub targets: Vec<Target>,

@@ -78,7 +78,6 @@ fn digits(bytes: &[u8]) -> usize
     count
 }
 
-/// The hash in front.
 fn hash_front(bytes: &[u8]) -> &[u8]
     ensures { result.now ≡ hash_front bytes.now }
 {
@@ -161,7 +160,7 @@ fn is_made_for(text: &[u8], reverse: bool, one: &Piece, other: &Piece) -> bool
     is_same_hash(made, old_hash(reverse, index_of(text, other)))
 }
 
-/// The same of two by their places.
+/// Whether the second of two, given by their places, is made for what the first makes of its source.
 fn are_made_for(text: &[u8], reverse: bool, pieces: &[Piece], one: usize, other: usize) -> bool
     ensures { result ≡ of_two (is_made_for text.now reverse) pieces.now one other }
 {

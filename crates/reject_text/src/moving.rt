@@ -37,7 +37,7 @@ fn growth(hunk: &Hunk, side: Side) -> i64
     i64::from(hunk.count(side.other())) - i64::from(hunk.count(side))
 }
 
-/// The same where it has a place, else 0.
+/// The lines that a hunk adds, less those that it drops, where it has a place; else 0.
 pub fn placed_growth(hunk: &Hunk, verdict: Verdict, side: Side) -> i64
     requires { length hunk.now.body.items < 2 ^ 32 }
     ensures is { (text : List ℕ) → result ≡ pos (placed_adds (turned side (hunk_of text hunk.now), verdict)) -ℤ pos (placed_drops (turned side (hunk_of text hunk.now), verdict)) }

@@ -59,7 +59,7 @@ fn put_moved<O: Sink>(
     put_in_form(out, text, hunk, side, (old_start, new_start), form)
 }
 
-/// The same where it has no place, else nothing.
+/// A hunk behind others that added `net` lines, where it has no place; else nothing.
 fn put_if_nowhere<O: Sink>(
     out: &mut O,
     text: &[u8],

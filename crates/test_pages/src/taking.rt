@@ -40,7 +40,7 @@ fn taken<P: Plan>(
     }
 }
 
-/// The same of padded pages, and how many bytes are in the scratch behind it.
+/// What comes of a file that is taken onto padded pages, and how many bytes are in the scratch behind it.
 pub fn by_padded(
     alloc: Global,
     file: &mut ChangingFile,

@@ -1,4 +1,4 @@
-//! A hunk of each form, and a script, as they are read of a text. What is written of longer ones are rows of tests/filters.
+//! A hunk of each form, and a script, as they are read of a text. What is written of longer ones are cases of tests/cases.
 
 use crate::headers::is_told;
 use std::alloc::{AllocError, Global};

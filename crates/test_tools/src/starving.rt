@@ -39,7 +39,7 @@ extra 00003
 0000020 936
 ";
 
-/// The same as GNU patch leaves it.
+/// That file as GNU patch leaves it.
 const PATCHED: &[u8] = b"extra 00001
 extra 00002
 extra 00003

@@ -38,7 +38,7 @@ pub fn at_opening(text: &[u8], at: usize) -> bool
     }
 }
 
-/// The same, with feeds.
+/// Whether a hunk opens at `at`, with the feeds at hand.
 pub fn opens_by(text: &[u8], at: usize, feeds: &mut LineFeeds) -> bool
     requires within { at ≤ length text.now }
     requires feeds { AreFeeds text.now feeds.old }
