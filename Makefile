@@ -2,7 +2,7 @@
 # make demo     the same, then applies a patch to a copy of examples/tree and shows the result, as soon as either compiler has built it;
 #               and what a run over 200 files leaves that is killed half-way
 # make try      runs that patch before any proof
-# make test     runs the gate (rt ci), then the checks and the worked rows on real files
+# make test     runs the gate (rt ci), then the cases (tests/cases) and the other checks on real files
 # make times    prints what each crate's proof, tests and edits took, slowest crate first, as make and make test noted it
 # make deep     tries the wrong bodies that the gate leaves out (wrong-bodies); CRATES='NAME ..' takes those of some crates alone
 # make mutants  tries the wrong bodies that no contract can refuse (wrong-bodies/seen_by_scripts): each script must fail on its own; some
@@ -38,8 +38,10 @@ try:
 # The gate leaves the program that it built where the build looks first, so nothing is proved twice.
 test:
 	@python3 tests/map
+	@python3 tests/tables_of_docs
 	@python3 tests/proofs gate $(RT) ci
 	@$(MAKE) --no-print-directory all
+	@python3 tests/run_cases $(BIN)
 	@sh tests/real_files $(BIN)
 	@sh tests/system $(BIN)
 	@sh tests/starved --files $(BIN)
